@@ -1,0 +1,4 @@
+pub mod LowestLaw
+pub mod PositionLaw
+pub mod GrayLaw
+pub mod LatestLaw

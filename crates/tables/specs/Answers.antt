@@ -1,0 +1,48 @@
+-- What each operation on tables answers, and what it leaves in the table that it was lent. Refusals in document 01's order.
+use mathlib.Core.Bool.{Bool, true, false, not}
+use mathlib.Core.List.{List}
+use Prim.Native.Nat.{ℕ, _*_, _^_}
+use lib.Dec.{eqb, ltb, leb}
+use lib.IntN.{ℤ}
+use lib.ListN.{length}
+use Rattle.refusals.specs.declared.Refusal.the-variants.{Length, Pair, Range}
+use Rattle.refusals.specs.declared.Verdict.{Verdict}
+use Rattle.refusals.specs.declared.Verdict.the-variants.{Done, Refused}
+use Rattle.refusals.specs.Refusal.{refuse, sized, after}
+use Rattle.tables.specs.declared.Evaluated.{Evaluated}
+use Rattle.tables.specs.declared.Evaluated.the-variants as evaluated
+use Rattle.tables.specs.Monomials.{countOf}
+use Rattle.tables.specs.Words.{legalFront, packed, differencesOf, coefficientsOf, valuesAt}
+
+-- refusal 2: a table of n unknowns is not of its exact length
+abbrev pub long : ℕ → List ℕ → Verdict → Verdict
+long n t v = refuse (not (eqb (length t) (2 * countOf n))) Length v
+
+-- refusal 3: an illegal pair
+abbrev pub paired : ℕ → ℕ → List ℕ → Verdict → Verdict
+paired n m t v = refuse (ltb (legalFront m t) (countOf n)) Pair v
+
+-- a word table by itself
+abbrev pub checkedOf : ℕ → ℕ → List ℕ → Verdict
+checkedOf n m t = sized n m (long n t (paired n m t Done))
+
+-- signed rows into a table
+abbrev pub packVerdict : ℕ → ℕ → List ℤ → List ℕ → Verdict
+packVerdict n m rows t = sized n m (refuse (not (eqb (length rows) (m * countOf n))) Length (long n t Done))
+
+abbrev pub packAfter : ℕ → ℕ → List ℤ → List ℕ → List ℕ
+packAfter n m rows t = after (packVerdict n m rows t) t (packed n m rows)
+
+-- from one table into another
+abbrev pub copyVerdict : ℕ → ℕ → List ℕ → List ℕ → Verdict
+copyVerdict n m from to = sized n m (long n from (long n to (paired n m from Done)))
+
+abbrev pub differencesAfter : ℕ → ℕ → List ℕ → List ℕ → List ℕ
+differencesAfter n m c t = after (copyVerdict n m c t) t (differencesOf n m c)
+
+abbrev pub coefficientsAfter : ℕ → ℕ → List ℕ → List ℕ → List ℕ
+coefficientsAfter n m t c = after (copyVerdict n m t c) c (coefficientsOf n m t)
+
+-- evaluation at a point
+abbrev pub evaluateVerdict : ℕ → ℕ → List ℕ → ℕ → Verdict
+evaluateVerdict n m c x = sized n m (long n c (paired n m c (refuse (leb (3 ^ n) x) Range Done)))

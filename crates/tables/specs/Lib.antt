@@ -1,0 +1,3 @@
+pub mod Monomials
+pub mod Words
+pub mod Answers

@@ -1,0 +1,14 @@
+// Tables of words: signed rows to words, legality, differences both ways, evaluation.
+// Contracts cite specs/Monomials (the order), specs/Words (what a table holds) and specs/Answers (refusals, and what is left in what was lent).
+use refusals::Refusal;
+use trits::Vector;
+
+mod monomials;
+
+pub use monomials::entry;
+
+// The value of each equation at a point, or why there is none.
+pub enum Evaluated {
+    Value(Vector),
+    Refused(Refusal),
+}

@@ -1,0 +1,4 @@
+pub mod Bits
+pub mod SumLaw
+pub mod LegalLaw
+pub mod ExtLaw

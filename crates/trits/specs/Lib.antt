@@ -1,0 +1,2 @@
+pub mod Trit
+pub mod Words

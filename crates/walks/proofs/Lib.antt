@@ -1,0 +1,3 @@
+pub mod BlockLaw
+pub mod RunLaw
+pub mod Shapes

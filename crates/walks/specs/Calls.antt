@@ -1,0 +1,86 @@
+-- Calls on a walk as a planner sees them: what one call gives, and what a run of calls gives together.
+use mathlib.Core.Path.{_≡_}
+use mathlib.Core.Bool.{Bool, true, false, _||_}
+use mathlib.Core.List.{List, [], _∷_, _++_}
+use Prim.Native.Nat.{ℕ, zero, suc, _+_, _-_, _<_}
+use lib.Dec.{eqb}
+use lib.ListN.{length, drop}
+use Rattle.gray.specs.declared.Place.{Place}
+use Rattle.walks.specs.declared.Stop.{Stop}
+use Rattle.walks.specs.declared.Stop.the-variants.{Ended, Full, Spent}
+use Rattle.walks.specs.declared.Report.{Report}
+
+-- a walk of the places 0 to end - 1: at each, whether it is a zero, what is listed for it, and what it costs
+pub record Trail : Type 0 where
+  pub end : ℕ
+  pub zeroAt : ℕ → Bool
+  pub entry : ℕ → ℕ
+  pub cost : ℕ → ℕ
+
+-- the entries of the zeros among k places from p, in order
+abbrev pub listed : Bool → ℕ → List ℕ → List ℕ
+listed true x l = x ∷ l
+listed false x l = l
+
+unfoldable pub zerosIn : Trail → ℕ → ℕ → List ℕ
+zerosIn T p zero = []
+zerosIn T p (suc k) = listed (T .zeroAt p) (T .entry p) (zerosIn T (suc p) k)
+
+-- the additions of k places from p
+unfoldable pub costIn : Trail → ℕ → ℕ → ℕ
+costIn T p zero = 0
+costIn T p (suc k) = T .cost p + costIn T (suc p) k
+
+-- the room for zeros that place p leaves of c
+abbrev pub roomAfter : Bool → ℕ → ℕ
+roomAfter true c = c - 1
+roomAfter false c = c
+
+-- how many places a call examines, from place p with budget b and a list of c entries: up to the end, a full list or a spent budget
+unfoldable pub pointsIn : Trail → ℕ → ℕ → ℕ → ℕ
+pointsIn T zero c p = 0
+pointsIn T (suc b) c p = elim (eqb p (T .end) || eqb c 0) [ true ↦ 0 | false ↦ suc (pointsIn T b (roomAfter (T .zeroAt p) c) (suc p)) ]
+
+abbrev pub pick : Bool → Stop → Stop → Stop
+pick true a b = a
+pick false a b = b
+
+-- why a call stopped before place p with f of c entries used: asked in the order ended, full, spent
+abbrev pub stopAt : Trail → ℕ → ℕ → ℕ → Stop
+stopAt T c f p = pick (eqb p (T .end)) Ended (pick (eqb f c) (Full (record { 0 = p })) (Spent (record { 0 = p })))
+
+-- what a call from place p answers, over k places with the zeros l
+abbrev pub reportIn : Trail → ℕ → ℕ → ℕ → Report
+reportIn T c p k =
+    record { stop = stopAt T c (length (zerosIn T p k)) (p + k); points = k; additions = costIn T p k; found = length (zerosIn T p k) }
+
+unfoldable pub reportOf : Trail → ℕ → ℕ → ℕ → Report
+reportOf T b c p = reportIn T c p (pointsIn T b c p)
+
+-- the list after: the zeros from the front, the rest as it was
+unfoldable pub listAfter : Trail → ℕ → ℕ → List ℕ → List ℕ
+listAfter T b p l = zerosIn T p (pointsIn T b (length l) p) ++ drop (length (zerosIn T p (pointsIn T b (length l) p))) l
+
+-- ---- a run of calls, each begun where the one before stopped
+pub record Call : Type 0 where
+  pub budget : ℕ
+  pub room : ℕ
+
+-- a call that is not refused
+pub record Fair (c : Call) : Type 0 where
+  pub budget : 0 < c .budget
+  pub room : 0 < c .room
+
+-- all that the calls of a run gave together
+pub record Totals : Type 0 where
+  pub place : ℕ
+  pub points : ℕ
+  pub additions : ℕ
+  pub list : List ℕ
+
+unfoldable pub totalsOf : Trail → ℕ → List Call → Totals
+totalsOf T p [] = record { place = p; points = 0; additions = 0; list = [] }
+totalsOf T p (c ∷ cs) =
+    let k = pointsIn T (c .budget) (c .room) p in
+    let r = totalsOf T (p + k) cs in
+    record { place = r .place; points = k + r .points; additions = costIn T p k + r .additions; list = zerosIn T p k ++ r .list }
