@@ -289,24 +289,33 @@ fn tell(name: &[u8], all: Count, c: Count) -> Count {
     }
 }
 
-fn main() {
-    let none = Count {
-        asked: 0,
-        differ: 0,
-    };
-    let a = tell(b"sums ", none, pairs(Op::Sum, 9));
+// Single trits and coefficients.
+fn small(all: Count) -> Count {
+    let a = tell(b"sums ", all, pairs(Op::Sum, 9));
     let b = tell(b"negations ", a, pairs(Op::Negation, 3));
     let c = tell(b"products ", b, pairs(Op::Product, 9));
     let d = tell(b"multiples ", c, pairs(Op::Multiple, 9));
-    let e = tell(b"coefficients ", d, coefficients());
-    let f = tell(b"sums in words ", e, words(Op::Sum));
-    let g = tell(b"negations in words ", f, words(Op::Negation));
-    let h = tell(b"products in words ", g, words(Op::Product));
-    let i = tell(b"multiples in words ", h, words(Op::Multiple));
-    let j = tell(b"trits read ", i, words(Op::Read));
-    let k = tell(b"trits put ", j, words(Op::Put));
-    let l = tell(b"zero tests ", k, zeros());
-    let all = tell(b"legality tests ", l, legals());
+    tell(b"coefficients ", d, coefficients())
+}
+
+// Random vectors, trit by trit.
+fn large(all: Count) -> Count {
+    let a = tell(b"sums in words ", all, words(Op::Sum));
+    let b = tell(b"negations in words ", a, words(Op::Negation));
+    let c = tell(b"products in words ", b, words(Op::Product));
+    let d = tell(b"multiples in words ", c, words(Op::Multiple));
+    let e = tell(b"trits read ", d, words(Op::Read));
+    tell(b"trits put ", e, words(Op::Put))
+}
+
+fn main() {
+    let a = small(Count {
+        asked: 0,
+        differ: 0,
+    });
+    let b = large(a);
+    let c = tell(b"zero tests ", b, zeros());
+    let all = tell(b"legality tests ", c, legals());
     if all.differ == 0 {
         io::write_all(STDOUT_FILENO, b"all ");
         io::print_decimal(STDOUT_FILENO, all.asked);

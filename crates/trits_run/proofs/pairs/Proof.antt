@@ -1,5 +1,6 @@
 -- `trits_run::pairs` is safe and ends.
 use Prim.Native.Nat.{_-_, _≤_}
+use native.Mathlib.Omega.{arith}
 use borrow.Author.Needs.{needs}
 use Rattle.trits_run.proofs.pairs.Statement.{statement}
 use Rattle.trits_run.proofs.pairs.Tie as tie
@@ -11,37 +12,37 @@ abbrev μ-loop : tie.MeasureT-loop
 μ-loop op n c₀ k₀ c k = n - k
 
 loop-holds : tie.Need-loop-holds Inv-loop μ-loop
-loop-holds c = search needs
+loop-holds c = omega arith
 
 single-requires : tie.Need-single-requires Inv-loop μ-loop
-single-requires c κs = search needs
+single-requires c κs = tt
 
 single-requires-2 : tie.Need-single-requires-2 Inv-loop μ-loop
-single-requires-2 c κs = search needs
+single-requires-2 c κs = tt
 
 apply-requires : tie.Need-apply-requires Inv-loop μ-loop
-apply-requires c κs = search needs
+apply-requires c κs = tt
 
 wanted-requires : tie.Need-wanted-requires Inv-loop μ-loop
 wanted-requires c κs = search needs
 
 single-requires-3 : tie.Need-single-requires-3 Inv-loop μ-loop
-single-requires-3 c κs = search needs
+single-requires-3 c κs = tt
 
 ask-requires : tie.Need-ask-requires Inv-loop μ-loop
-ask-requires c κs = search needs
+ask-requires c κs = tt
 
 add-k : tie.Need-add-k Inv-loop μ-loop
-add-k c = search needs
+add-k c = omega arith
 
 loop-less : tie.Need-loop-less Inv-loop μ-loop
-loop-less c = search needs
+loop-less c = omega arith
 
 loop-again : tie.Need-loop-again Inv-loop μ-loop
-loop-again c = search needs
+loop-again c = omega arith
 
 returns : tie.Need-returns Inv-loop μ-loop
-returns c = search needs
+returns c = tt
 
 pub pairs-spec : {M : Type 1} → statement M
 pairs-spec =

@@ -1,6 +1,6 @@
 -- `trits_run::plain_zero` is safe and ends.
 use Prim.Native.Nat.{_-_, _≤_}
-use borrow.Author.Needs.{needs}
+use native.Mathlib.Omega.{arith}
 use Rattle.trits_run.proofs.plain_zero.Statement.{statement}
 use Rattle.trits_run.proofs.plain_zero.Tie as tie
 
@@ -11,22 +11,22 @@ abbrev μ-loop : tie.MeasureT-loop
 μ-loop v e₀ zero₀ e zero = 64 - e
 
 loop-holds : tie.Need-loop-holds Inv-loop μ-loop
-loop-holds c = search needs
+loop-holds c = omega arith
 
 plain-requires : tie.Need-plain-requires Inv-loop μ-loop
-plain-requires c κs = search needs
+plain-requires c κs = tt
 
 add-e : tie.Need-add-e Inv-loop μ-loop
-add-e c = search needs
+add-e c = omega arith
 
 loop-less : tie.Need-loop-less Inv-loop μ-loop
-loop-less c = search needs
+loop-less c = omega arith
 
 loop-again : tie.Need-loop-again Inv-loop μ-loop
-loop-again c = search needs
+loop-again c = omega arith
 
 returns : tie.Need-returns Inv-loop μ-loop
-returns c = search needs
+returns c = tt
 
 pub plain-zero-spec : {M : Type 1} → statement M
 plain-zero-spec =
