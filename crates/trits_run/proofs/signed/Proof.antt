@@ -1,5 +1,5 @@
 -- `trits_run::signed` is safe: a test at the 128 bytes from 128 upward.
-use mathlib.Core.Path.{_≡_, refl}
+use mathlib.Core.Path.{refl}
 use Prim.Native.Nat.{_-_, _<_}
 use native.Mathlib.Omega.{arith}
 use lib.Dec.{ltb}
