@@ -2,3 +2,4 @@ pub mod BlockLaw
 pub mod RunLaw
 pub mod Shapes
 pub mod CallLaw
+pub mod JoinLaw

@@ -5,7 +5,7 @@ use mathlib.Core.Logic.{_⊎_}
 use mathlib.Core.List.{List, [], _∷_, _++_}
 use Prim.Native.Nat.{ℕ, zero, suc, _+_, _-_, _≤_, _<_}
 use lib.Dec.{eqb}
-use lib.ListN.{length, drop}
+use lib.ListN.{length, getD, take, drop}
 use Rattle.gray.specs.declared.Place.{Place}
 use Rattle.walks.specs.declared.Stop.{Stop}
 use Rattle.walks.specs.declared.Stop.the-variants.{Ended, Full, Spent}
@@ -102,3 +102,38 @@ totalsOf T p (c ∷ cs) =
     let k = pointsIn T (c .budget) (c .room) p in
     let r = totalsOf T (p + k) cs in
     record { place = r .place; points = k + r .points; additions = costIn T p k + r .additions; list = zerosIn T p k ++ r .list }
+
+-- no call of the run is refused
+abbrev pub AllFair : List Call → Type 0
+AllFair [] = Unit {0}
+AllFair (c ∷ cs) = Fair c × AllFair cs
+
+-- what a call promises that begins at place p: it examines the next places, at most its budget and at least one if some are left,
+-- it makes their additions, and it lists exactly the zeros among them, in any list l that it is lent
+pub record OneCall (T : Trail) (c : Call) (p : ℕ) : Type 0 where
+  pub place : stopPlace (T .end) (reportOf T (c .budget) (c .room) p .stop) ≡ p + reportOf T (c .budget) (c .room) p .points
+  pub budget : reportOf T (c .budget) (c .room) p .points ≤ c .budget
+  pub one : p < T .end → 0 < reportOf T (c .budget) (c .room) p .points
+  pub within : p + reportOf T (c .budget) (c .room) p .points ≤ T .end
+  pub additions : reportOf T (c .budget) (c .room) p .additions ≡ costIn T p (reportOf T (c .budget) (c .room) p .points)
+  pub zeros : (l : List ℕ) → length l ≡ c .room
+      → take (reportOf T (c .budget) (c .room) p .found) (listAfter T (c .budget) p l) ≡ zerosIn T p (reportOf T (c .budget) (c .room) p .points)
+  pub rest : (l : List ℕ) → length l ≡ c .room
+      → (i : ℕ) → reportOf T (c .budget) (c .room) p .found ≤ i → getD (listAfter T (c .budget) p l) i 0 ≡ getD l i 0
+
+-- that of every call of a run, each begun where the one before stopped
+abbrev pub EachCall : Trail → ℕ → List Call → Type 0
+EachCall T p [] = Unit {0}
+EachCall T p (c ∷ cs) = OneCall T c p × EachCall T (p + pointsIn T (c .budget) (c .room) p) cs
+
+-- demand 3, of a run from place 0 that has ended: the promise of each call, and that together they list all zeros in order,
+-- examine as many points as there are places, and make the additions of all of them
+pub record Demand3 (T : Trail) (cs : List Call) : Type 0 where
+  pub each : EachCall T 0 cs
+  pub list : totalsOf T 0 cs .list ≡ zerosIn T 0 (T .end)
+  pub points : totalsOf T 0 cs .points ≡ T .end
+  pub additions : totalsOf T 0 cs .additions ≡ costIn T 0 (T .end)
+
+-- the same walk with another end
+abbrev pub until : Trail → ℕ → Trail
+until T e = record { end = e; zeroAt = T .zeroAt; entry = T .entry; cost = T .cost }
