@@ -3,3 +3,4 @@ pub mod RunLaw
 pub mod Shapes
 pub mod CallLaw
 pub mod JoinLaw
+pub mod ZeroLaw
