@@ -4,3 +4,4 @@ pub mod Shapes
 pub mod CallLaw
 pub mod JoinLaw
 pub mod ZeroLaw
+pub mod CostLaw

@@ -1,3 +1,4 @@
 pub mod Walk
 pub mod Calls
 pub mod Zeros
+pub mod Cost

@@ -1,0 +1,109 @@
+-- Additions of whole walks: a place q * k + e has e positions more than k, so the sums over n + 1 digits are made of those over n.
+use mathlib.Core.Path.{_≡_, refl, sym, ap, ap₂, _∙_}
+use mathlib.Core.Logic.{by-cases, _↔_}
+use mathlib.Core.List.{List, [], _∷_}
+use Prim.Native.Nat.{ℕ, zero, suc, _+_, _-_, _*_, _/_, _^_, _≤_, _<_, min}
+use native.Mathlib.Nat.{add-zero, zero-add, mul-zero, mul-suc, mul-comm, mul-sub, one-mul, pow-zero, pow-suc, one-le-pow, mul-le-mul-left}
+use native.Mathlib.Decide.{ℕ-discrete, decLt}
+use native.Mathlib.Omega.{arith}
+use lib.ListN.{length}
+use Rattle.residues.specs.Sums.{sum}
+use Rattle.residues.proofs.SumLaw.{sum-add, sum-ext}
+use Rattle.gray.specs.Positions.{lowestOf, positions, reps}
+use Rattle.gray.proofs.LowestLaw.{of-times, of-le}
+use Rattle.gray.proofs.PositionLaw.{positions-none, positions-next, positions-reps}
+use Rattle.walks.specs.Calls.{Trail, costIn}
+use Rattle.walks.specs.Cost.{costOf, costAll}
+use Rattle.walks.proofs.CallLaw.{cost-add}
+
+-- ---- sums
+sum-const : (n c : ℕ) → sum n (λ i. c) ≡ n * c
+unfolding sum
+sum-const zero c = omega arith
+sum-const (suc n) c = omega (arith, sum-const n c)
+
+sum-split : (a b : ℕ) (h : ℕ → ℕ) → sum (a + b) h ≡ sum a h + sum b (λ i. h (a + i))
+unfolding sum
+sum-split a zero h = ap (λ (n : ℕ). sum n h) (add-zero a) ∙ sym (add-zero (sum a h))
+sum-split a (suc b) h =
+    let s : a + suc b ≡ suc (a + b) = omega arith in
+    ap (λ (n : ℕ). sum n h) s ∙ ap (λ (n : ℕ). n + h (a + b)) (sum-split a b h) ∙ omega arith
+
+sum-swap : (a b : ℕ) (h : ℕ → ℕ → ℕ) → sum a (λ i. sum b (λ j. h i j)) ≡ sum b (λ j. sum a (λ i. h i j))
+unfolding sum
+sum-swap zero b h = sym (sum-const b 0 ∙ mul-zero b)
+sum-swap (suc a) b h = ap (λ (n : ℕ). n + sum b (λ j. h a j)) (sum-swap a b h) ∙ sym (sum-add b (λ j. sum a (λ i. h i j)) (λ j. h a j))
+
+-- q * m places as m times q
+sum-rows : (q m : ℕ) (h : ℕ → ℕ) → sum (q * m) h ≡ sum m (λ k. sum q (λ e. h (q * k + e)))
+unfolding sum
+sum-rows q zero h = ap (λ (n : ℕ). sum n h) (mul-zero q)
+sum-rows q (suc m) h =
+    ap (λ (n : ℕ). sum n h) (mul-suc q m) ∙ sum-split (q * m) q h ∙ ap (λ (n : ℕ). n + sum q (λ e. h (q * m + e))) (sum-rows q m h)
+
+-- the additions of places 0 to n - 1 are a sum
+pub cost-sum : (T : Trail) (n : ℕ) → costIn T 0 n ≡ sum n (T .cost)
+unfolding costIn sum
+cost-sum T zero = refl
+cost-sum T (suc n) =
+    let s : suc n ≡ n + 1 = omega arith in
+    ap (costIn T 0) s ∙ cost-add T 0 n 1 ∙ ap₂ (λ (x y : ℕ). x + y) (cost-sum T n) (add-zero (T .cost (0 + n)) ∙ ap (T .cost) (zero-add n))
+
+module _ (q : ℕ) (two : 1 < q) where
+  -- ---- the number of positions
+  reps-length : (d l : ℕ) (ps : List ℕ) → length (reps d l ps) ≡ d + length ps
+  unfolding reps
+  reps-length zero l ps = omega arith
+  reps-length (suc d) l ps = omega (arith, reps-length d l ps)
+
+  power-one : q ^ 1 ≡ q
+  power-one = pow-suc q 0 ∙ ap (λ (i : ℕ). i * q) (pow-zero q) ∙ one-mul q
+
+  -- a digit 0 below all others gives none
+  times-in : (n k : ℕ) → k ≤ n → length (positions q (q * k)) ≡ length (positions q k)
+  times-in zero zero h = ap (λ (x : ℕ). length (positions q x)) (mul-zero q)
+  times-in zero (suc k) h = absurd (omega arith)
+  times-in (suc n) zero h = ap (λ (x : ℕ). length (positions q x)) (mul-zero q)
+  times-in (suc n) (suc k) h =
+      let x = suc k in
+      let z : 0 < q = omega arith in
+      let pos : 0 < x = omega arith in
+      let w = one-le-pow (lowestOf q x) q z in
+      let low : lowestOf q (q * x) ≡ suc (lowestOf q x) = ap (λ (i : ℕ). lowestOf q (i * x)) (sym power-one) ∙ of-times q two 1 x pos ∙ omega arith in
+      let big : 0 < q * x = omega (arith, mul-le-mul-left q pos) in
+      let left : q * x - q ^ lowestOf q (q * x) ≡ q * (x - q ^ lowestOf q x) = rw (low, pow-suc) (less (q ^ lowestOf q x) x) in
+      ap length (positions-next q two (q * x) big)
+      ∙ ap (λ (i : ℕ). suc (length (positions q i))) left
+      ∙ ap suc (times-in n (x - q ^ lowestOf q x) (omega arith))
+      ∙ sym (ap length (positions-next q two x pos))
+    where
+      less : (w x : ℕ) → q * x - w * q ≡ q * (x - w)
+      less w x = ap (λ (i : ℕ). q * x - i) (mul-comm w q) ∙ sym (mul-sub q x w)
+
+  pub positions-count : (k e : ℕ) → e < q → length (positions q (q * k + e)) ≡ e + length (positions q k)
+  positions-count k e h =
+      let one : (x : ℕ) → q ^ 0 * x ≡ x = λ x. rw (pow-zero q) (one-mul x) in
+      ap (λ (i : ℕ). length (positions q i)) (sym (one (q * k + e)))
+      ∙ ap length (positions-reps q two 0 k e h) ∙ reps-length e 0 (positions q (q ^ 0 * (q * k)))
+      ∙ ap (λ (i : ℕ). e + length (positions q i)) (one (q * k)) ∙ ap (λ (i : ℕ). e + i) (times-in k k (omega arith))
+
+  -- ---- what a place costs
+  pub cost-digit : (d k e : ℕ) → e < q → costOf q d (q * k + e) ≡ min d e + costOf q (d - e) k
+  unfolding costOf
+  cost-digit d k e h = ap (min d) (positions-count k e h) ∙ cut d e (length (positions q k))
+    where
+      cut : (d e n : ℕ) → min d (e + n) ≡ min d e + min (d - e) n
+      cut d e n = omega arith
+
+  pub all-next : (d n : ℕ) → costAll q d (suc n) ≡ sum q (λ e. q ^ n * min d e + costAll q (d - e) n)
+  unfolding costAll
+  all-next d n =
+      let w : q ^ suc n ≡ q * q ^ n = pow-suc q n ∙ omega arith in
+      ap (λ (i : ℕ). sum i (costOf q d)) w
+      ∙ sum-rows q (q ^ n) (costOf q d)
+      ∙ sum-swap (q ^ n) q (λ k e. costOf q d (q * k + e))
+      ∙ sum-ext q (λ e. sum (q ^ n) (λ k. costOf q d (q * k + e))) (λ e. q ^ n * min d e + sum (q ^ n) (costOf q (d - e)))
+      (λ e h.
+      sum-ext (q ^ n) (λ k. costOf q d (q * k + e)) (λ k. min d e + costOf q (d - e) k) (λ k l. cost-digit d k e h)
+      ∙ sum-add (q ^ n) (λ k. min d e) (costOf q (d - e))
+      ∙ ap (λ (i : ℕ). i + sum (q ^ n) (costOf q (d - e))) (sum-const (q ^ n) (min d e)))
