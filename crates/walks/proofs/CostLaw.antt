@@ -3,7 +3,7 @@ use mathlib.Core.Path.{_≡_, refl, sym, ap, ap₂, _∙_}
 use mathlib.Core.Logic.{by-cases, _↔_}
 use mathlib.Core.List.{List, [], _∷_}
 use Prim.Native.Nat.{ℕ, zero, suc, _+_, _-_, _*_, _/_, _^_, _≤_, _<_, min}
-use native.Mathlib.Nat.{add-zero, zero-add, mul-zero, mul-suc, mul-comm, mul-sub, one-mul, pow-zero, pow-suc, one-le-pow, mul-le-mul-left}
+use native.Mathlib.Nat.{add-zero, zero-add, mul-zero, mul-suc, mul-comm, mul-sub, one-mul, pow-zero, pow-suc, one-le-pow, mul-le-mul-left, zero-min, min-zero}
 use native.Mathlib.Decide.{ℕ-discrete, decLt}
 use native.Mathlib.Omega.{arith}
 use lib.ListN.{length}
@@ -107,3 +107,48 @@ module _ (q : ℕ) (two : 1 < q) where
       sum-ext (q ^ n) (λ k. costOf q d (q * k + e)) (λ k. min d e + costOf q (d - e) k) (λ k l. cost-digit d k e h)
       ∙ sum-add (q ^ n) (λ k. min d e) (costOf q (d - e))
       ∙ ap (λ (i : ℕ). i + sum (q ^ n) (costOf q (d - e))) (sum-const (q ^ n) (min d e)))
+
+  -- ---- all places of n digits
+  pub all-nothing : (n : ℕ) → costAll q 0 n ≡ 0
+  unfolding costAll costOf
+  all-nothing n =
+      sum-ext (q ^ n) (λ p. min 0 (length (positions q p))) (λ p. 0) (λ p h. zero-min (length (positions q p))) ∙ sum-const (q ^ n) 0 ∙ mul-zero (q ^ n)
+
+  pub all-none : (d : ℕ) → costAll q d 0 ≡ 0
+  unfolding costAll costOf sum
+  all-none d =
+      ap (λ (n : ℕ). sum n (costOf q d)) (pow-zero q)
+      ∙ ap (λ (l : List ℕ). 0 + min d (length l)) (positions-none q two) ∙ ap (λ (n : ℕ). 0 + n) (min-zero d)
+
+  -- the digits from d upward cost d at every place
+  all-rows : (d r n : ℕ) → q ≡ d + r → costAll q d (suc n) ≡ sum d (λ e. q ^ n * min d e + costAll q (d - e) n) + r * (q ^ n * d)
+  all-rows d r n h =
+      all-next d n ∙ ap (λ (i : ℕ). sum i f) h ∙ sum-split d r f
+      ∙ ap (λ (i : ℕ). sum d f + i) (sum-ext r (λ i. f (d + i)) (λ i. q ^ n * d) (λ i l. full i) ∙ sum-const r (q ^ n * d))
+    where
+      f : ℕ → ℕ
+      f e = q ^ n * min d e + costAll q (d - e) n
+
+      full : (i : ℕ) → q ^ n * min d (d + i) + costAll q (d - (d + i)) n ≡ q ^ n * d
+      full i =
+          let m : min d (d + i) ≡ d = omega arith in
+          let z : d - (d + i) ≡ 0 = omega arith in
+          ap₂ (λ (x y : ℕ). q ^ n * x + costAll q y n) m z ∙ ap (λ (x : ℕ). q ^ n * d + x) (all-nothing n) ∙ add-zero (q ^ n * d)
+
+  pub all-one : (n : ℕ) → costAll q 1 n + 1 ≡ q ^ n
+  unfolding sum
+  all-one zero = omega (arith, all-none 1, pow-zero q)
+  all-one (suc n) =
+      let r = q - 1 in
+      let h : q ≡ 1 + r = omega arith in
+      let w : q ^ suc n ≡ q ^ n * (1 + r) = pow-suc q n ∙ ap (λ (i : ℕ). q ^ n * i) h in
+      omega (arith, all-rows 1 r n h, w, all-one n)
+
+  pub all-two : (n : ℕ) → costAll q 2 n + 2 + n ≡ 2 * q ^ n
+  unfolding sum
+  all-two zero = omega (arith, all-none 2, pow-zero q)
+  all-two (suc n) =
+      let r = q - 2 in
+      let h : q ≡ 2 + r = omega arith in
+      let w : q ^ suc n ≡ q ^ n * (2 + r) = pow-suc q n ∙ ap (λ (i : ℕ). q ^ n * i) h in
+      omega (arith, all-rows 2 r n h, w, all-two n, all-one n)
