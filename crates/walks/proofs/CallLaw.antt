@@ -3,7 +3,7 @@ use mathlib.Core.Path.{_≡_, refl, sym, ap, subst, _∙_}
 use mathlib.Core.Bool.{Bool, true, false, _||_}
 use mathlib.Core.Logic.{_⊎_, inl, inr, ⊎-elim, by-cases, _↔_}
 use mathlib.Core.List.{List, [], _∷_, _++_, append-assoc}
-use Prim.Native.Nat.{ℕ, zero, suc, _+_, _-_, _≤_, _<_}
+use Prim.Native.Nat.{ℕ, zero, suc, _+_, _-_, _*_, _≤_, _<_}
 use native.Mathlib.Nat.{add-zero, zero-add}
 use native.Mathlib.Decide.{ℕ-discrete, decLt}
 use native.Mathlib.Omega.{arith}
@@ -68,6 +68,12 @@ module _ (T : Trail) where
       let s : suc j + k ≡ suc (j + k) = omega arith in
       ap (costIn T p) s ∙ ap (λ (n : ℕ). T .cost p + n) (cost-add (suc p) j k)
       ∙ ap (λ (i : ℕ). T .cost p + (costIn T (suc p) j + costIn T i k)) (next-sum p j) ∙ omega arith
+
+  -- k places at d additions each, at most
+  pub cost-most : (d : ℕ) → ((p : ℕ) → T .cost p ≤ d) → (p k : ℕ) → costIn T p k ≤ d * k
+  unfolding costIn
+  cost-most d f p zero = omega arith
+  cost-most d f p (suc k) = omega (arith, f p, cost-most d f (suc p) k)
 
   -- ---- how far a call goes
   pub points-none : (b c p : ℕ) → p ≡ T .end → pointsIn T b c p ≡ 0

@@ -3,15 +3,15 @@ use mathlib.Core.Path.{_≡_, refl, sym, ap, ap₂, _∙_}
 use mathlib.Core.Logic.{by-cases, _↔_}
 use mathlib.Core.List.{List, [], _∷_}
 use Prim.Native.Nat.{ℕ, zero, suc, _+_, _-_, _*_, _/_, _^_, _≤_, _<_, min}
-use native.Mathlib.Nat.{add-zero, zero-add, mul-zero, mul-suc, mul-comm, mul-sub, one-mul, pow-zero, pow-suc, one-le-pow, mul-le-mul-left, zero-min, min-zero}
+use native.Mathlib.Nat.{add-zero, zero-add, mul-zero, mul-suc, mul-comm, mul-sub, one-mul, pow-zero, pow-suc, one-le-pow, mul-le-mul-left, zero-min, min-zero, mod-eq-of-lt}
 use native.Mathlib.Decide.{ℕ-discrete, decLt}
 use native.Mathlib.Omega.{arith}
 use lib.ListN.{length}
 use Rattle.residues.specs.Sums.{sum}
 use Rattle.residues.proofs.SumLaw.{sum-add, sum-ext}
-use Rattle.gray.specs.Positions.{lowestOf, positions, reps}
-use Rattle.gray.proofs.LowestLaw.{of-times, of-le}
-use Rattle.gray.proofs.PositionLaw.{positions-none, positions-next, positions-reps}
+use Rattle.gray.specs.Positions.{lowestIn, lowestOf, positionsIn, positions, reps}
+use Rattle.gray.proofs.LowestLaw.{of-times, of-le, of-other}
+use Rattle.gray.proofs.PositionLaw.{positions-none, positions-next, positions-reps, positions-one, positions-two}
 use Rattle.walks.specs.Calls.{Trail, costIn}
 use Rattle.walks.specs.Cost.{costOf, costAll}
 use Rattle.walks.proofs.CallLaw.{cost-add}
@@ -152,3 +152,86 @@ module _ (q : ℕ) (two : 1 < q) where
       let h : q ≡ 2 + r = omega arith in
       let w : q ^ suc n ≡ q ^ n * (2 + r) = pow-suc q n ∙ ap (λ (i : ℕ). q ^ n * i) h in
       omega (arith, all-rows 2 r n h, w, all-two n, all-one n)
+
+  -- in degree 3, with twice the sum so that no half is in it
+  pub all-three : 2 < q → (n : ℕ) → 2 * costAll q 3 n + 6 + 4 * n + n * (n + 1) ≡ 6 * q ^ n
+  unfolding sum
+  all-three more zero = omega (arith, all-none 3, pow-zero q)
+  all-three more (suc n) =
+      let r = q - 3 in
+      let h : q ≡ 3 + r = omega arith in
+      let w : q ^ suc n ≡ q ^ n * (3 + r) = pow-suc q n ∙ ap (λ (i : ℕ). q ^ n * i) h in
+      omega (arith, all-rows 3 r n h, w, all-three more n, all-two n, all-one n)
+
+  -- ---- the additions of a whole walk
+  module _ (T : Trail) (n : ℕ) where
+    all-cost : (d : ℕ) → ((p : ℕ) → p < q ^ n → T .cost p ≡ costOf q d p) → costIn T 0 (q ^ n) ≡ costAll q d n
+    unfolding costAll
+    all-cost d e = cost-sum T (q ^ n) ∙ sum-ext (q ^ n) (T .cost) (costOf q d) e
+
+    pub whole-two : ((p : ℕ) → p < q ^ n → T .cost p ≡ costOf q 2 p) → costIn T 0 (q ^ n) ≡ 2 * (q ^ n - 1) - n
+    whole-two e = omega (arith, all-cost 2 e, all-two n)
+
+    pub whole-three : 2 < q → ((p : ℕ) → p < q ^ n → T .cost p ≡ costOf q 3 p) → costIn T 0 (q ^ n) ≡ 3 * (q ^ n - 1) - 2 * n - n * (n + 1) / 2
+    whole-three more e = omega (arith, all-cost 3 e, all-three more n)
+
+  -- ---- the cost of one place: no position at 0, one at a power, two or more elsewhere
+  pub count-zero : length (positions q 0) ≡ 0
+  count-zero = ap length (positions-none q two)
+
+  lowest-power : (k : ℕ) → lowestOf q (q ^ k) ≡ k
+  lowest-power k =
+      let o : q ^ k * 1 ≡ q ^ k = omega arith in
+      let z : lowestOf q 1 ≡ 0 = of-other q two 1 (λ e. omega (arith, e, mod-eq-of-lt two)) in
+      ap (lowestOf q) (sym o) ∙ of-times q two k 1 (omega arith) ∙ ap (λ (i : ℕ). k + i) z ∙ add-zero k
+
+  pub count-power : (k : ℕ) → length (positions q (q ^ k)) ≡ 1
+  count-power k =
+      let z : 0 < q = omega arith in
+      let e : q ^ k - q ^ lowestOf q (q ^ k) ≡ 0 = rw (lowest-power k) (omega arith) in
+      ap length (positions-one q two (q ^ k) (one-le-pow k q z) e)
+
+  pub count-other : (p : ℕ) → 0 < p → (p ≡ q ^ lowestOf q p → ⊥) → 2 ≤ length (positions q p)
+  count-other p h f =
+      let l = of-le q two p h in
+      omega (arith, ap length (positions-two q two p h (omega arith)))
+
+  pub cost-zero : (d : ℕ) → costOf q d 0 ≡ 0
+  unfolding costOf
+  cost-zero d = omega (arith, count-zero)
+
+  pub cost-power : (d k : ℕ) → 0 < d → costOf q d (q ^ k) ≡ 1
+  unfolding costOf
+  cost-power d k h = omega (arith, count-power k)
+
+  pub cost-other : (p : ℕ) → 0 < p → ((k : ℕ) → p ≡ q ^ k → ⊥) → costOf q 2 p ≡ 2
+  unfolding costOf
+  cost-other p h f = omega (arith, count-other p h (f (lowestOf q p)))
+
+  -- one addition at powers only
+  pub cost-one : (p : ℕ) → (costOf q 2 p ≡ 1) ↔ ((k : ℕ) × (p ≡ q ^ k))
+  unfolding costOf
+  cost-one p = (
+    λ e. by-cases (ℕ-discrete p 0)
+        (λ z. absurd (omega (arith, e, cost-zero 2, ap (costOf q 2) z)))
+        (λ n. by-cases (ℕ-discrete p (q ^ lowestOf q p)) (λ s. (lowestOf q p, s)) (λ f. absurd (omega (arith, e, count-other p (omega arith) f)))),
+    λ z. ap (costOf q 2) (z .1) ∙ cost-power 2 (z .0) (omega arith),
+  )
+
+  -- and never more than the degree
+  pub cost-le : (d p : ℕ) → costOf q d p ≤ d
+  unfolding costOf
+  cost-le d p = omega arith
+
+-- ---- computed: one to three digits in base 3, one and two in base 5, and two in base 3 in degree 3
+pub at-three : (costAll 3 2 1 ≡ 3) × (costAll 3 2 2 ≡ 14) × (costAll 3 2 3 ≡ 49)
+unfolding costAll costOf sum positions positionsIn lowestOf lowestIn
+at-three = (refl, refl, refl)
+
+pub at-five : (costAll 5 2 1 ≡ 7) × (costAll 5 2 2 ≡ 46)
+unfolding costAll costOf sum positions positionsIn lowestOf lowestIn
+at-five = (refl, refl)
+
+pub at-cubic : costAll 3 3 2 ≡ 17
+unfolding costAll costOf sum positions positionsIn lowestOf lowestIn
+at-cubic = refl

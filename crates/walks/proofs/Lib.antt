@@ -5,3 +5,4 @@ pub mod CallLaw
 pub mod JoinLaw
 pub mod ZeroLaw
 pub mod CostLaw
+pub mod SearchLaw
