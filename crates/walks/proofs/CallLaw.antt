@@ -9,7 +9,7 @@ use native.Mathlib.Decide.{ℕ-discrete, decLt}
 use native.Mathlib.Omega.{arith}
 use lib.Dec.{eqb}
 use lib.ListN.{length, getD, take, drop, length-append, length-drop}
-use lib.Seq.{take-append-seam, getD-append-add, getD-drop}
+use lib.Seq.{take-append-seam, drop-append-add, getD-append-add, getD-drop}
 use borrow.Author.Tests.{eq-eqb, ne-eqb}
 use Rattle.gray.specs.declared.Place.{Place}
 use Rattle.walks.specs.declared.Stop.{Stop}
@@ -265,6 +265,13 @@ module _ (T : Trail) where
     pub after-front : take (reportOf T b (length l) p .found) (listAfter T b p l) ≡ zerosIn T p (reportOf T b (length l) p .points)
     unfolding listAfter reportOf
     after-front = let f = zerosIn T p (pointsIn T b (length l) p) in take-append-seam f (drop (length f) l)
+
+    pub after-drop : drop (reportOf T b (length l) p .found) (listAfter T b p l) ≡ drop (reportOf T b (length l) p .found) l
+    unfolding listAfter reportOf
+    after-drop =
+        let f = zerosIn T p (pointsIn T b (length l) p) in
+        let e : length f + 0 ≡ length f = omega arith in
+        ap (λ (j : ℕ). drop j (listAfter T b p l)) (sym e) ∙ drop-append-add f (drop (length f) l) 0
 
     pub after-rest : (i : ℕ) → reportOf T b (length l) p .found ≤ i → getD (listAfter T b p l) i 0 ≡ getD l i 0
     unfolding listAfter reportOf

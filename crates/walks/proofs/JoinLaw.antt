@@ -7,9 +7,9 @@ use Prim.Native.Nat.{ℕ, zero, suc, _+_, _-_, _≤_, _<_}
 use native.Mathlib.Nat.{add-zero, zero-add}
 use native.Mathlib.Decide.{decLt}
 use native.Mathlib.Omega.{arith}
-use lib.ListN.{length, getD, take, length-append}
+use lib.ListN.{length, take, drop, length-append}
 use Rattle.walks.specs.Calls.{Trail, listed, zerosIn, costIn, pointsIn, FirstStop, stopPlace, reportOf, listAfter, Call, Fair, Totals, totalsOf, AllFair, OneCall, EachCall, Demand3, until}
-use Rattle.walks.proofs.CallLaw.{zeros-add, cost-add, first-stop, points-only, points-le, points-one, points-none, points-end, zeros-room, stop-room, report-place, after-front, after-rest}
+use Rattle.walks.proofs.CallLaw.{zeros-add, cost-add, first-stop, points-only, points-le, points-one, points-none, points-end, zeros-room, stop-room, report-place, after-front, after-drop, after-length}
 
 sum-over : (p j k : ℕ) → p + j + k ≡ p + (j + k)
 sum-over p j k = omega arith
@@ -63,11 +63,18 @@ module _ (T : Trail) where
         one = λ l. points-one T (c .budget) (c .room) p l (f .budget) (f .room);
         within = points-end T (c .budget) (c .room) p h;
         additions = refl;
-        zeros = λ l e. subst (λ (r : ℕ). take (reportOf T (c .budget) r p .found) (listAfter T (c .budget) p l) ≡ zerosIn T p (reportOf T (c .budget) r p .points)) e (after-front T (c .budget) p l);
-        rest = λ l e i m. after-rest T (c .budget) p l i (subst (λ (r : ℕ). reportOf T (c .budget) r p .found ≤ i) (sym e) m);
+        found = refl;
+        zeros = λ l e.
+            subst (λ (r : ℕ). take (reportOf T (c .budget) r p .found) (listAfter T (c .budget) p l) ≡ zerosIn T p (reportOf T (c .budget) r p .points)) e
+            (after-front T (c .budget) p l);
+        rest = λ l e.
+            subst (λ (r : ℕ). drop (reportOf T (c .budget) r p .found) (listAfter T (c .budget) p l) ≡ drop (reportOf T (c .budget) r p .found) l) e
+            (after-drop T (c .budget) p l);
+        same = λ l e. after-length T (c .budget) p l;
       }
 
   pub each-call : (p : ℕ) (cs : List Call) → AllFair cs → p ≤ T .end → EachCall T p cs
+  unfolding reportOf
   each-call p [] f h = tt
   each-call p (c ∷ cs) f h =
       (one-call c p (f .0) h, each-call (p + pointsIn T (c .budget) (c .room) p) cs (f .1) (points-end T (c .budget) (c .room) p h))
