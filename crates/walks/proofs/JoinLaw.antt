@@ -1,6 +1,6 @@
 -- Runs of calls: places that follow each other have zeros that follow each other and additions that add up, however the run is cut.
 use mathlib.Core.Path.{_≡_, refl, sym, ap, ap₂, subst, _∙_}
-use mathlib.Core.Logic.{_⊎_, inl, inr, ⊎-elim, by-cases}
+use mathlib.Core.Logic.{_⊎_, inl, inr, ⊎-elim, by-cases, _↔_}
 use mathlib.Core.Bool.{Bool, true, false}
 use mathlib.Core.List.{List, [], _∷_, _++_}
 use Prim.Native.Nat.{ℕ, zero, suc, _+_, _-_, _≤_, _<_}
@@ -8,8 +8,9 @@ use native.Mathlib.Nat.{add-zero, zero-add}
 use native.Mathlib.Decide.{decLt}
 use native.Mathlib.Omega.{arith}
 use lib.ListN.{length, take, drop, length-append}
-use Rattle.walks.specs.Calls.{Trail, listed, zerosIn, costIn, pointsIn, FirstStop, stopPlace, reportOf, listAfter, Call, Fair, Totals, totalsOf, AllFair, OneCall, EachCall, Demand3, until}
-use Rattle.walks.proofs.CallLaw.{zeros-add, cost-add, first-stop, points-only, points-le, points-one, points-none, points-end, zeros-room, stop-room, report-place, after-front, after-drop, after-length}
+use Rattle.walks.specs.declared.Stop.the-variants.{Ended}
+use Rattle.walks.specs.Calls.{Trail, listed, zerosIn, costIn, pointsIn, FirstStop, stopPlace, reportOf, listAfter, Call, Fair, Totals, totalsOf, AllFair, answerTo, OneCall, EachCall, Demand3, until}
+use Rattle.walks.proofs.CallLaw.{zeros-add, cost-add, first-stop, points-only, points-le, points-one, points-none, points-end, zeros-room, stop-room, report-place, report-ended, after-front, after-drop, after-length}
 
 sum-over : (p j k : ℕ) → p + j + k ≡ p + (j + k)
 sum-over p j k = omega arith
@@ -96,6 +97,26 @@ module _ (T : Trail) where
         points = w .0 ∙ n;
         additions = w .1 ∙ ap (costIn T 0) n;
       }
+
+  -- a run of as many calls as there are places is such a run
+  pub demand3-enough : (cs : List Call) → AllFair cs → T .end ≤ length cs → Demand3 T cs
+  demand3-enough cs f l = demand3 cs f (ends 0 cs (omega arith) f (omega arith))
+
+  -- ---- the calls before, and the last one
+  pub totals-after : (p : ℕ) (cs ds : List Call) → totalsOf T p (cs ++ ds) .place ≡ totalsOf T (totalsOf T p cs .place) ds .place
+  unfolding totalsOf
+  totals-after p [] ds = refl
+  totals-after p (c ∷ cs) ds = totals-after (p + pointsIn T (c .budget) (c .room) p) cs ds
+
+  -- a run has come to the end exactly if its last call answers that it ended
+  pub totals-ended : (p : ℕ) (cs : List Call) (c : Call)
+      → (answerTo T c (totalsOf T p cs .place) .stop ≡ Ended) ↔ (totalsOf T p (cs ++ c ∷ []) .place ≡ T .end)
+  unfolding totalsOf
+  totals-ended p cs c =
+      let x = totalsOf T p cs .place in
+      let r = report-ended T (c .budget) (c .room) x in
+      let a = totals-after p cs (c ∷ []) in
+      (λ e. a ∙ r .0 e, λ e. r .1 (sym a ∙ e))
 
   -- ---- a call cut in two
   joined : (p k x : ℕ) → length (zerosIn T p (k + x)) ≡ length (zerosIn T p k) + length (zerosIn T (p + k) x)
