@@ -6,3 +6,4 @@ pub mod JoinLaw
 pub mod ZeroLaw
 pub mod CostLaw
 pub mod SearchLaw
+pub mod FollowLaw
