@@ -1,8 +1,8 @@
 -- One call: it stops at the first place at which it has to (by recursion on the budget), and everything else follows from that.
 use mathlib.Core.Path.{_≡_, refl, sym, ap, subst, _∙_}
-use mathlib.Core.Bool.{Bool, true, false, _||_}
+use mathlib.Core.Bool.{Bool, true, false}
 use mathlib.Core.Logic.{_⊎_, inl, inr, ⊎-elim, by-cases, _↔_}
-use mathlib.Core.List.{List, [], _∷_, _++_, append-assoc}
+use mathlib.Core.List.{List, _∷_, _++_}
 use Prim.Native.Nat.{ℕ, zero, suc, _+_, _-_, _*_, _≤_, _<_}
 use native.Mathlib.Nat.{add-zero, zero-add}
 use native.Mathlib.Decide.{ℕ-discrete, decLt}
@@ -14,8 +14,7 @@ use borrow.Author.Tests.{eq-eqb, ne-eqb}
 use Rattle.gray.specs.declared.Place.{Place}
 use Rattle.walks.specs.declared.Stop.{Stop}
 use Rattle.walks.specs.declared.Stop.the-variants.{Ended, Full, Spent}
-use Rattle.walks.specs.declared.Report.{Report}
-use Rattle.walks.specs.Calls.{Trail, listed, zerosIn, costIn, roomAfter, pointsIn, FirstStop, pick, stopAt, stopNumber, stopPlace, reportIn, reportOf, listAfter}
+use Rattle.walks.specs.Calls.{Trail, listed, zerosIn, costIn, roomAfter, pointsIn, FirstStop, stopAt, stopNumber, stopPlace, reportOf, listAfter}
 
 next-sum : (p j : ℕ) → suc p + j ≡ p + suc j
 next-sum p j = omega arith

@@ -1,10 +1,10 @@
 -- Additions of whole walks: a place q * k + e has e positions more than k, so the sums over n + 1 digits are made of those over n.
 use mathlib.Core.Path.{_≡_, refl, sym, ap, ap₂, _∙_}
 use mathlib.Core.Logic.{by-cases, _↔_}
-use mathlib.Core.List.{List, [], _∷_}
+use mathlib.Core.List.{List}
 use Prim.Native.Nat.{ℕ, zero, suc, _+_, _-_, _*_, _/_, _^_, _≤_, _<_, min}
 use native.Mathlib.Nat.{add-zero, zero-add, mul-zero, mul-suc, mul-comm, mul-sub, one-mul, pow-zero, pow-suc, one-le-pow, mul-le-mul-left, zero-min, min-zero, mod-eq-of-lt}
-use native.Mathlib.Decide.{ℕ-discrete, decLt}
+use native.Mathlib.Decide.{ℕ-discrete}
 use native.Mathlib.Omega.{arith}
 use lib.ListN.{length}
 use Rattle.residues.specs.Sums.{sum}

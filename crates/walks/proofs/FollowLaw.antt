@@ -2,16 +2,16 @@
 use mathlib.Core.Path.{_≡_, refl, sym, ap, ap₂, subst, _∙_}
 use mathlib.Core.Bool.{Bool, true, false, _||_}
 use mathlib.Core.List.{List, [], _∷_, _++_, append-assoc}
-use Prim.Native.Nat.{ℕ, zero, suc, _+_, _-_, _≤_, _<_}
+use Prim.Native.Nat.{ℕ, zero, suc, _+_, _≤_, _<_}
 use native.Mathlib.Nat.{add-zero, zero-add}
 use native.Mathlib.Omega.{arith}
 use lib.Dec.{eqb}
 use lib.ListN.{length, set, take, drop, length-set, take-append-drop}
 use lib.Seq.{take-suc-set, drop-set-lt}
 use Rattle.walks.specs.Walk.{Walk, stepOf, iterate, runOf}
-use Rattle.walks.specs.Calls.{Trail, zerosIn, costIn, pointsIn, FirstStop, stopAt, reportOf, listAfter}
-use Rattle.walks.proofs.CallLaw.{zeros-hit, zeros-miss, first-stop, stop-end}
-use Rattle.walks.proofs.SearchLaw.{run-points}
+use Rattle.walks.specs.Calls.{Trail, zerosIn, costIn, pointsIn, stopAt, reportOf, listAfter}
+use Rattle.walks.proofs.CallLaw.{zeros-hit, zeros-miss, first-stop, points-end}
+use Rattle.walks.proofs.HaltLaw.{run-points}
 
 -- the counts that a state keeps
 pub record Counts (S : Type 0) : Type 0 where
@@ -112,3 +112,86 @@ module _ (T : Trail) (q : ℕ) {S : Type 0} (W : Walk S) (C : Counts S) (Right :
                 ∙ ap₂ (λ (i : ℕ) (y : List ℕ). written (C .list s) i y) (w .0) (z ∙ sym (zeros-miss T p k e));
             same = a .same ∙ ap length (w .1);
           }
+
+  open-more : (s : S) (k : ℕ) → Right s → Open s (suc k) → Open (stepOf q W s) k
+  open-more s k h o j l = go (T .zeroAt p) refl
+    where
+      p : ℕ
+      p = W .place s
+
+      on : W .place (stepOf q W s) ≡ suc p
+      on = law .place s ∙ omega arith
+
+      left : W .place s < T .end
+      left = let x = o 0 (omega arith) .0 in omega arith
+
+      z : zerosIn T (W .place (stepOf q W s)) j ≡ zerosIn T (suc p) j
+      z = ap (λ (i : ℕ). zerosIn T i j) on
+
+      go : (t : Bool) → T .zeroAt p ≡ t
+          → (W .place (stepOf q W s) + j < T .end) × (C .found (stepOf q W s) + length (zerosIn T (W .place (stepOf q W s)) j) < length (C .list (stepOf q W s)))
+      go true e =
+          let x = o (suc j) (omega arith) in
+          let w = law .hit s h left e in (
+            omega (arith, x .0, on),
+            omega (arith, x .1, w .0, ap length z, ap length (zeros-hit T p j e), ap length (w .1), length-set (C .list s) (C .found s) (T .entry p)),
+          )
+      go false e =
+          let x = o (suc j) (omega arith) in
+          let w = law .miss s h left e in
+          (omega (arith, x .0, on), omega (arith, x .1, w .0, ap length z, ap length (zeros-miss T p j e), ap length (w .1)))
+
+  pub follow : (k : ℕ) (s : S) → Right s → Open s k → After s (iterate q W k s) k
+  unfolding iterate
+  follow zero s h o = after-none s h
+  follow (suc k) s h o =
+      let x = o 0 (omega arith) in
+      let l : W .place s < T .end = let y = x .0 in omega arith in
+      let m : C .found s < length (C .list s) = let y = x .1 in omega arith in
+      after-more s (iterate q W k (stepOf q W s)) k h l m (follow k (stepOf q W s) (law .right s h l m) (open-more s k h o))
+
+  -- a search from s, with budget b, that came to the state r: all is as a call on the trail says
+  pub record Answers (b : ℕ) (s r : S) : Type 0 where
+    pub right : Right r
+    pub place : W .place r ≡ W .place s + reportOf T b (length (C .list s)) (W .place s) .points
+    pub additions : C .additions r ≡ C .additions s + reportOf T b (length (C .list s)) (W .place s) .additions
+    pub found : C .found r ≡ reportOf T b (length (C .list s)) (W .place s) .found
+    pub list : C .list r ≡ listAfter T b (W .place s) (C .list s)
+    pub stop : stopAt T (length (C .list s)) (C .found r) (W .place r) ≡ reportOf T b (length (C .list s)) (W .place s) .stop
+
+  module _ (halt : S → Bool) (halts : (s : S) → halt s ≡ (eqb (W .place s) (T .end) || eqb (C .found s) (length (C .list s)))) where
+    pub answers : (b : ℕ) (s : S) → Right s → W .place s ≤ T .end → C .found s ≡ 0 → Answers b s (runOf q W halt b s)
+    unfolding reportOf listAfter
+    answers b s h l e = subst (Answers b s) (sym (run-points T q W halt b c p s with)) there
+      where
+        p : ℕ
+        p = W .place s
+
+        c : ℕ
+        c = length (C .list s)
+
+        k : ℕ
+        k = pointsIn T b c p
+
+        open-to : (j : ℕ) → j ≤ k → Open s j
+        open-to j m i n = let g = first-stop T b c p .goes i (omega arith) .1 in (omega (arith, points-end T b c p l), omega (arith, g, e))
+
+        with : (j : ℕ) → j ≤ k → halt (iterate q W j s) ≡ (eqb (p + j) (T .end) || eqb (length (zerosIn T p j)) c)
+        with j m =
+            let a = follow j s h (open-to j m) in
+            let f : C .found (iterate q W j s) ≡ length (zerosIn T p j) = omega (arith, a .found, e) in
+            halts (iterate q W j s) ∙ rw (a .place, f, a .same)
+
+        there : Answers b s (iterate q W k s)
+        there =
+            let a = follow k s h (open-to k (omega arith)) in
+            let f : C .found (iterate q W k s) ≡ length (zerosIn T p k) = omega (arith, a .found, e) in
+            let z = zerosIn T p k in
+            record {
+              right = a .right;
+              place = a .place;
+              additions = a .additions;
+              found = f;
+              list = a .list ∙ ap (λ (i : ℕ). written (C .list s) i z) e ∙ ap (λ (i : ℕ). z ++ drop i (C .list s)) (zero-add (length z));
+              stop = ap₂ (stopAt T c) f (a .place);
+            }

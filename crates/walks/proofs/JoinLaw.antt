@@ -1,16 +1,15 @@
 -- Runs of calls: places that follow each other have zeros that follow each other and additions that add up, however the run is cut.
 use mathlib.Core.Path.{_≡_, refl, sym, ap, ap₂, subst, _∙_}
-use mathlib.Core.Logic.{_⊎_, inl, inr, ⊎-elim, by-cases, _↔_}
-use mathlib.Core.Bool.{Bool, true, false}
+use mathlib.Core.Logic.{inl, inr, ⊎-elim, by-cases, _↔_}
 use mathlib.Core.List.{List, [], _∷_, _++_}
 use Prim.Native.Nat.{ℕ, zero, suc, _+_, _-_, _≤_, _<_}
-use native.Mathlib.Nat.{add-zero, zero-add}
+use native.Mathlib.Nat.{add-zero}
 use native.Mathlib.Decide.{decLt}
 use native.Mathlib.Omega.{arith}
 use lib.ListN.{length, take, drop, length-append}
 use Rattle.walks.specs.declared.Stop.the-variants.{Ended}
-use Rattle.walks.specs.Calls.{Trail, listed, zerosIn, costIn, pointsIn, FirstStop, stopPlace, reportOf, listAfter, Call, Fair, Totals, totalsOf, AllFair, answerTo, OneCall, EachCall, Demand3, until}
-use Rattle.walks.proofs.CallLaw.{zeros-add, cost-add, first-stop, points-only, points-le, points-one, points-none, points-end, zeros-room, stop-room, report-place, report-ended, after-front, after-drop, after-length}
+use Rattle.walks.specs.Calls.{Trail, listed, zerosIn, costIn, pointsIn, FirstStop, reportOf, listAfter, Call, Fair, totalsOf, AllFair, answerTo, OneCall, EachCall, Demand3, until}
+use Rattle.walks.proofs.CallLaw.{zeros-add, cost-add, first-stop, points-only, points-le, points-one, points-end, stop-room, report-place, report-ended, after-front, after-drop, after-length}
 
 sum-over : (p j k : ℕ) → p + j + k ≡ p + (j + k)
 sum-over p j k = omega arith

@@ -5,5 +5,5 @@ pub mod CallLaw
 pub mod JoinLaw
 pub mod ZeroLaw
 pub mod CostLaw
-pub mod SearchLaw
+pub mod HaltLaw
 pub mod FollowLaw

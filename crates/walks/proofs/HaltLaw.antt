@@ -1,14 +1,14 @@
 -- A run of steps that halts where a call has to stop goes as many places as the call examines.
-use mathlib.Core.Path.{_≡_, refl, sym, ap, _∙_}
+use mathlib.Core.Path.{_≡_, refl, ap, _∙_}
 use mathlib.Core.Bool.{Bool, true, false, _||_}
-use mathlib.Core.Logic.{_⊎_, inl, inr, ⊎-elim}
-use Prim.Native.Nat.{ℕ, zero, suc, _+_, _-_, _≤_, _<_}
+use mathlib.Core.Logic.{⊎-elim}
+use Prim.Native.Nat.{ℕ, _+_, _-_, _≤_, _<_}
 use native.Mathlib.Omega.{arith}
 use lib.Dec.{eqb}
 use lib.ListN.{length}
 use borrow.Author.Tests.{eq-eqb, ne-eqb}
-use Rattle.walks.specs.Walk.{Walk, stepOf, iterate, runOf}
-use Rattle.walks.specs.Calls.{Trail, zerosIn, pointsIn, FirstStop}
+use Rattle.walks.specs.Walk.{Walk, iterate, runOf}
+use Rattle.walks.specs.Calls.{Trail, zerosIn, pointsIn}
 use Rattle.walks.proofs.RunLaw.{run-none, run-halt, run-many}
 use Rattle.walks.proofs.CallLaw.{first-stop}
 
