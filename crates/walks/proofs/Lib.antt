@@ -1,3 +1,4 @@
 pub mod BlockLaw
 pub mod RunLaw
 pub mod Shapes
+pub mod CallLaw

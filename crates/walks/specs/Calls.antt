@@ -1,8 +1,9 @@
 -- Calls on a walk as a planner sees them: what one call gives, and what a run of calls gives together.
 use mathlib.Core.Path.{_≡_}
 use mathlib.Core.Bool.{Bool, true, false, _||_}
+use mathlib.Core.Logic.{_⊎_}
 use mathlib.Core.List.{List, [], _∷_, _++_}
-use Prim.Native.Nat.{ℕ, zero, suc, _+_, _-_, _<_}
+use Prim.Native.Nat.{ℕ, zero, suc, _+_, _-_, _≤_, _<_}
 use lib.Dec.{eqb}
 use lib.ListN.{length, drop}
 use Rattle.gray.specs.declared.Place.{Place}
@@ -41,6 +42,12 @@ unfoldable pub pointsIn : Trail → ℕ → ℕ → ℕ → ℕ
 pointsIn T zero c p = 0
 pointsIn T (suc b) c p = elim (eqb p (T .end) || eqb c 0) [ true ↦ 0 | false ↦ suc (pointsIn T b (roomAfter (T .zeroAt p) c) (suc p)) ]
 
+-- the same said without steps: a call stops after the first k places at which it has to, the end, a full list or a spent budget
+pub record FirstStop (T : Trail) (b c p k : ℕ) : Type 0 where
+  pub most : k ≤ b
+  pub goes : (j : ℕ) → j < k → (p + j ≡ T .end → ⊥) × (length (zerosIn T p j) < c)
+  pub here : (p + k ≡ T .end) ⊎ (length (zerosIn T p k) ≡ c) ⊎ (k ≡ b)
+
 abbrev pub pick : Bool → Stop → Stop → Stop
 pick true a b = a
 pick false a b = b
@@ -48,6 +55,17 @@ pick false a b = b
 -- why a call stopped before place p with f of c entries used: asked in the order ended, full, spent
 abbrev pub stopAt : Trail → ℕ → ℕ → ℕ → Stop
 stopAt T c f p = pick (eqb p (T .end)) Ended (pick (eqb f c) (Full (record { 0 = p })) (Spent (record { 0 = p })))
+
+-- document 01's number of a stop, and the place that a caller gets with it: the next to be examined, or at the end the end e
+abbrev pub stopNumber : Stop → ℕ
+stopNumber Ended = 0
+stopNumber (Full x) = 1
+stopNumber (Spent x) = 2
+
+abbrev pub stopPlace : ℕ → Stop → ℕ
+stopPlace e Ended = e
+stopPlace e (Full x) = x .0
+stopPlace e (Spent x) = x .0
 
 -- what a call from place p answers, over k places with the zeros l
 abbrev pub reportIn : Trail → ℕ → ℕ → ℕ → Report
