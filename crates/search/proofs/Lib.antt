@@ -1,2 +1,4 @@
 pub mod Trial
 pub mod RecordLaw
+pub mod VerdictLaw
+pub mod SessionLaw

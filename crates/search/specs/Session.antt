@@ -1,7 +1,10 @@
 -- A run of calls on one record: what the calls gave together, refused ones left out.
+use mathlib.Core.Bool.{Bool, true, false, _||_}
 use mathlib.Core.List.{List, [], _∷_, _++_}
 use Prim.Native.Nat.{ℕ, _+_}
-use lib.ListN.{take}
+use lib.Dec.{eqb}
+use lib.ListN.{length, take}
+use Rattle.walks.specs.Calls.{Call}
 use Rattle.search.specs.declared.Record.{Record}
 use Rattle.search.specs.declared.Answer.{Answer}
 use Rattle.search.specs.declared.Answer.the-variants.{Ran, Refused}
@@ -43,3 +46,12 @@ sessionOf n m t r (q ∷ qs) =
       additions = additionsOf (o .answer) + s .additions;
       listed = listedOf (o .answer) (listOf n m t r (q .budget) (q .list)) ++ s .listed;
     }
+
+-- the requests that are not refused for their budget or list, as calls on the walk
+abbrev pub fairOf : Bool → Call → List Call → List Call
+fairOf true c cs = cs
+fairOf false c cs = c ∷ cs
+
+unfoldable pub callsOf : List Request → List Call
+callsOf [] = []
+callsOf (q ∷ qs) = fairOf (eqb (q .budget) 0 || eqb (length (q .list)) 0) (record { budget = q .budget; room = length (q .list) }) (callsOf qs)
