@@ -1,1 +1,2 @@
 pub mod IndexLaw
+pub mod MonomialLaw
