@@ -1,2 +1,3 @@
 pub mod IndexLaw
 pub mod MonomialLaw
+pub mod WordLaw
