@@ -1,1 +1,5 @@
 pub mod IndexLaw
+pub mod MonomialLaw
+pub mod WordLaw
+pub mod AgreeLaw
+pub mod RoundLaw

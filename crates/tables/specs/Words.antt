@@ -1,12 +1,13 @@
 -- Word tables: high then low for each monomial, equation e at bit e.
+use mathlib.Core.Path.{_≡_}
 use mathlib.Core.Bool.{Bool, true, false}
 use mathlib.Core.List.{List, [], _∷_}
-use Prim.Native.Nat.{ℕ, zero, suc, _+_, _*_}
+use Prim.Native.Nat.{ℕ, zero, suc, _+_, _*_, _<_}
 use lib.IntN.{ℤ, pos}
-use lib.ListN.{getD}
+use lib.ListN.{length, getD}
 use Rattle.residues.specs.Residue.{floorMod}
 use Rattle.trits.specs.declared.Vector.{Vector}
-use Rattle.trits.specs.Trit.{trit, ofTrits}
+use Rattle.trits.specs.Trit.{trit, Legal, ofTrits}
 use Rattle.trits.specs.Words.{isLegal}
 use Rattle.gray.specs.Numbers.{digit}
 use Rattle.polynomials.specs.Poly.{Poly, valueOf, tableOf, backOf}
@@ -26,6 +27,11 @@ unfoldable pub legalFront : ℕ → List ℕ → ℕ
 legalFront m [] = 0
 legalFront m (h ∷ []) = 0
 legalFront m (h ∷ l ∷ t) = elim (isLegal m (record { high = h; low = l })) [ true ↦ suc (legalFront m t) | false ↦ 0 ]
+
+-- a legal table of n unknowns and m equations: of the exact length, every pair legal
+pub record Table (n m : ℕ) (t : List ℕ) : Type 0 where
+  pub size : length t ≡ 2 * countOf n
+  pub legal : (k : ℕ) → k < countOf n → Legal m (entry t k)
 
 -- equation e of the system whose coefficients a table holds
 unfoldable pub polyAt : ℕ → List ℕ → ℕ → Poly
