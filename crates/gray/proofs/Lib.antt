@@ -3,3 +3,5 @@ pub mod PositionLaw
 pub mod GrayLaw
 pub mod LatestLaw
 pub mod PartLaw
+pub mod DigitLaw
+pub mod MapLaw
