@@ -1,4 +1,5 @@
 pub mod Bits
+pub mod SliceLaw
 pub mod SumLaw
 pub mod LegalLaw
 pub mod ExtLaw
