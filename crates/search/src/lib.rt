@@ -6,6 +6,8 @@ use refusals::Verdict;
 use trits::Vector;
 use walks::Report;
 
+mod opening;
+
 // The walk of one table, between two calls. Slots from n to 19 are zero.
 pub struct Record {
     pub n: u64,

@@ -6,6 +6,7 @@ use trits::Vector;
 mod monomials;
 
 pub use monomials::entry;
+pub use monomials::vector;
 
 // The value of each equation at a point, or why there is none.
 pub enum Evaluated {
