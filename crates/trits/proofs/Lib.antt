@@ -3,3 +3,5 @@ pub mod SliceLaw
 pub mod SumLaw
 pub mod LegalLaw
 pub mod ExtLaw
+pub mod PutLaw
+pub mod WordLaw

@@ -28,8 +28,8 @@ module _ (high low : ℕ → ℕ → ℕ → ℕ → ℕ) (f : ℕ → ℕ → �
       (leb-true _ _ (and-left (paired x1 x0 y1 y0) (right x1 x0 y1 y0) t), eqb-true _ _ (and-right (paired x1 x0 y1 y0) (right x1 x0 y1 y0) t))
 
   module _ (ok : both4 test ≡ true) (a b r : Vector) (m : ℕ) (la : Legal m a) (lb : Legal m b)
-    (highs : (e : ℕ) → bit (r .high) e ≡ high (bit (a .high) e) (bit (a .low) e) (bit (b .high) e) (bit (b .low) e))
-    (lows : (e : ℕ) → bit (r .low) e ≡ low (bit (a .high) e) (bit (a .low) e) (bit (b .high) e) (bit (b .low) e)) where
+      (highs : (e : ℕ) → bit (r .high) e ≡ high (bit (a .high) e) (bit (a .low) e) (bit (b .high) e) (bit (b .low) e))
+      (lows : (e : ℕ) → bit (r .low) e ≡ low (bit (a .high) e) (bit (a .low) e) (bit (b .high) e) (bit (b .low) e)) where
     here : (e : ℕ) → (bit (r .low) e ≤ bit (r .high) e) × (bit (r .high) e + bit (r .low) e ≡ f (bit (a .high) e + bit (a .low) e) (bit (b .high) e + bit (b .low) e) % 3)
     here e = rw (highs e, lows e) (at ok _ _ _ _ (bit-lt (a .high) e) (bit-lt (a .low) e) (bit-lt (b .high) e) (bit-lt (b .low) e) (la .paired e) (lb .paired e))
 

@@ -7,7 +7,7 @@ use lib.Bits.{bitAnd, bitOr, bitXor}
 use Rattle.residues.proofs.ModLaw.{mul-mod}
 use Rattle.trits.specs.declared.Vector.{Vector}
 use Rattle.trits.specs.Trit.{trit, Legal, Holds, none}
-use Rattle.trits.specs.Words.{addOf, negateOf, productOf, timesIn, timesOf}
+use Rattle.trits.specs.Words.{addOf, negateOf, productOf, timesIn, timesOf, Scaled}
 use Rattle.trits.proofs.Bits.{bits}
 use Rattle.trits.proofs.SliceLaw.{slices}
 use Rattle.trits.proofs.LegalLaw.{trit-lt, trit-none, legal-none}
@@ -44,3 +44,20 @@ scaled v t m l =
     let small : t % 3 < 3 = omega arith in
     let n = times-in (t % 3) v m small l in
     record { legal = n .legal; each = λ e h. n .each e h ∙ mul-mod (trit v e) t 3 }
+
+-- the three multiples, by the remainder of t
+module _ (v : Vector) (t : ℕ) where
+  pub times-none : t % 3 ≡ 0 → timesOf v t ≡ none
+  unfolding timesIn timesOf
+  times-none e = ap (λ (k : ℕ). timesIn k v) e
+
+  pub times-once : t % 3 ≡ 1 → timesOf v t ≡ v
+  unfolding timesIn timesOf
+  times-once e = ap (λ (k : ℕ). timesIn k v) e
+
+  pub times-twice : t % 3 ≡ 2 → timesOf v t ≡ negateOf v
+  unfolding timesIn timesOf
+  times-twice e = ap (λ (k : ℕ). timesIn k v) e
+
+pub scales : {v r : Vector} {t : ℕ} → r ≡ timesOf v t → Scaled v t r
+scales {v} {r} {t} e = record { words = e; trits = λ m l. rw e (scaled v t m l) }
