@@ -1,3 +1,4 @@
 pub mod Opened
+pub mod Parts
 pub mod Search
 pub mod Session

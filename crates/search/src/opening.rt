@@ -11,6 +11,7 @@ ghost use Rattle.gray.specs.Numbers.{pointDigit};
 ghost use Rattle.polynomials.specs.Poly.{slope, diff};
 ghost use Rattle.tables.specs.Words.{polyAt, Table};
 ghost use Rattle.tables.specs.Monomials.{countOf};
+ghost use Rattle.search.specs.Parts.{Slots};
 
 // The digits of the point at a place.
 fn digits(n: usize, place: u64) -> [u64; 20]
@@ -89,7 +90,8 @@ fn change(c: &[u64], n: usize, b: usize, x: [u64; 20]) -> Vector
 
 // The slots of the record whose latest place is q.
 fn slots(c: &[u64], n: usize, q: u64) -> [Vector; 20]
-    requires { ⌜ (n ≤ 20) × (q < 3 ^ n) × (length (now c) ≡ 2 * countOf n) ⌝ }
+    requires { ⌜ (n ≤ 20) × (q < 2 ^ 32) × (length (now c) ≡ 2 * countOf n) ⌝ }
+    ensures { λ r. ⌜ Slots n (now (c .entry)) q r ⌝ }
 {
     let mut s = [Vector { high: 0, low: 0 }; 20];
     let mut power: u64 = 1;

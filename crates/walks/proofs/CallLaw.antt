@@ -112,7 +112,7 @@ module _ (T : Trail) where
       record {
         most = omega (arith, s .most);
         goes = goes-more b c p k f h s;
-        here = ⊎-elim (λ e. inl (sym (next-sum p k) ∙ e)) (⊎-elim (λ e. inr (inl (room-used c p k h e))) (λ e. inr (inr (ap suc e)))) (s .here)
+        here = ⊎-elim (λ e. inl (sym (next-sum p k) ∙ e)) (⊎-elim (λ e. inr (inl (room-used c p k h e))) (λ e. inr (inr (ap suc e)))) (s .here);
       }
 
   -- nothing to do
