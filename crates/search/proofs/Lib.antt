@@ -6,3 +6,4 @@ pub mod HoldLaw
 pub mod PlaceLaw
 pub mod ChangeLaw
 pub mod SlotsLaw
+pub mod SystemLaw
