@@ -1,24 +1,27 @@
 -- One call: it stops at the first place at which it has to (by recursion on the budget), and everything else follows from that.
 use mathlib.Core.Path.{_≡_, refl, sym, ap, subst, _∙_}
-use mathlib.Core.Bool.{Bool, true, false, _||_}
+use mathlib.Core.Bool.{Bool, true, false}
 use mathlib.Core.Logic.{_⊎_, inl, inr, ⊎-elim, by-cases, _↔_}
-use mathlib.Core.List.{List, [], _∷_, _++_, append-assoc}
-use Prim.Native.Nat.{ℕ, zero, suc, _+_, _-_, _≤_, _<_}
+use mathlib.Core.List.{List, _∷_, _++_}
+use Prim.Native.Nat.{ℕ, zero, suc, _+_, _-_, _*_, _≤_, _<_}
 use native.Mathlib.Nat.{add-zero, zero-add}
 use native.Mathlib.Decide.{ℕ-discrete, decLt}
 use native.Mathlib.Omega.{arith}
 use lib.Dec.{eqb}
 use lib.ListN.{length, getD, take, drop, length-append, length-drop}
-use lib.Seq.{take-append-seam, getD-append-add, getD-drop}
+use lib.Seq.{take-append-seam, drop-append-add, getD-append-add, getD-drop}
 use borrow.Author.Tests.{eq-eqb, ne-eqb}
 use Rattle.gray.specs.declared.Place.{Place}
 use Rattle.walks.specs.declared.Stop.{Stop}
 use Rattle.walks.specs.declared.Stop.the-variants.{Ended, Full, Spent}
-use Rattle.walks.specs.declared.Report.{Report}
-use Rattle.walks.specs.Calls.{Trail, listed, zerosIn, costIn, roomAfter, pointsIn, FirstStop, pick, stopAt, stopNumber, stopPlace, reportIn, reportOf, listAfter}
+use Rattle.walks.specs.Calls.{Trail, listed, zerosIn, costIn, roomAfter, pointsIn, FirstStop, stopAt, stopNumber, stopPlace, reportOf, listAfter}
 
 next-sum : (p j : ℕ) → suc p + j ≡ p + suc j
 next-sum p j = omega arith
+
+-- stops with different numbers differ
+numbers : {s a b : Stop} → s ≡ a → s ≡ b → stopNumber a ≡ stopNumber b
+numbers e f = sym (ap stopNumber e) ∙ ap stopNumber f
 
 module _ (T : Trail) where
   -- ---- zeros and additions of places that follow each other
@@ -64,6 +67,12 @@ module _ (T : Trail) where
       let s : suc j + k ≡ suc (j + k) = omega arith in
       ap (costIn T p) s ∙ ap (λ (n : ℕ). T .cost p + n) (cost-add (suc p) j k)
       ∙ ap (λ (i : ℕ). T .cost p + (costIn T (suc p) j + costIn T i k)) (next-sum p j) ∙ omega arith
+
+  -- k places at d additions each, at most
+  pub cost-most : (d : ℕ) → ((p : ℕ) → T .cost p ≤ d) → (p k : ℕ) → costIn T p k ≤ d * k
+  unfolding costIn
+  cost-most d f p zero = omega arith
+  cost-most d f p (suc k) = omega (arith, f p, cost-most d f (suc p) k)
 
   -- ---- how far a call goes
   pub points-none : (b c p : ℕ) → p ≡ T .end → pointsIn T b c p ≡ 0
@@ -172,3 +181,101 @@ module _ (T : Trail) where
 
   pub zeros-room : (b c p : ℕ) → length (zerosIn T p (pointsIn T b c p)) ≤ c
   zeros-room b c p = stop-room b c p (pointsIn T b c p) (first-stop b c p)
+
+  -- ---- why it stopped
+  pub at-end : (c f p : ℕ) → p ≡ T .end → stopAt T c f p ≡ Ended
+  at-end c f p e = rw (eq-eqb p (T .end) e)
+
+  pub at-full : (c f p : ℕ) → (p ≡ T .end → ⊥) → f ≡ c → stopAt T c f p ≡ Full (record { 0 = p })
+  at-full c f p n e = rw (ne-eqb p (T .end) n, eq-eqb f c e)
+
+  pub at-spent : (c f p : ℕ) → (p ≡ T .end → ⊥) → (f ≡ c → ⊥) → stopAt T c f p ≡ Spent (record { 0 = p })
+  at-spent c f p n m = rw (ne-eqb p (T .end) n, ne-eqb f c m)
+
+  -- by cases on the stop
+  at-cases : (c f p : ℕ) {P : Type 0} → (p ≡ T .end → stopAt T c f p ≡ Ended → P) → ((p ≡ T .end → ⊥) → f ≡ c → stopAt T c f p ≡ Full (record { 0 = p }) → P)
+      → ((p ≡ T .end → ⊥) → (f ≡ c → ⊥) → stopAt T c f p ≡ Spent (record { 0 = p }) → P) → P
+  at-cases c f p ended full spent =
+      by-cases (ℕ-discrete p (T .end)) (λ e. ended e (at-end c f p e))
+      (λ n. by-cases (ℕ-discrete f c) (λ e. full n e (at-full c f p n e)) (λ m. spent n m (at-spent c f p n m)))
+
+  pub stop-place : (c f p : ℕ) → stopPlace (T .end) (stopAt T c f p) ≡ p
+  stop-place c f p = at-cases c f p (λ e s. ap (stopPlace (T .end)) s ∙ sym e) (λ n e s. ap (stopPlace (T .end)) s) (λ n m s. ap (stopPlace (T .end)) s)
+
+  pub stop-ended : (c f p : ℕ) → (stopAt T c f p ≡ Ended) ↔ (p ≡ T .end)
+  stop-ended c f p = (
+    λ s. at-cases c f p (λ e t. e) (λ n e t. absurd (omega (arith, numbers s t))) (λ n m t. absurd (omega (arith, numbers s t))),
+    at-end c f p,
+  )
+
+  pub stop-full : (c f p : ℕ) (x : Place) → stopAt T c f p ≡ Full x → (x .0 ≡ p) × (f ≡ c) × (p ≡ T .end → ⊥)
+  stop-full c f p x s =
+      at-cases c f p (λ e t. absurd (omega (arith, numbers s t)))
+      (λ n e t. (ap (stopPlace 0) (sym s ∙ t), e, n))
+      (λ n m t. absurd (omega (arith, numbers s t)))
+
+  pub stop-spent : (c f p : ℕ) (x : Place) → stopAt T c f p ≡ Spent x → (x .0 ≡ p) × (f ≡ c → ⊥) × (p ≡ T .end → ⊥)
+  stop-spent c f p x s =
+      at-cases c f p (λ e t. absurd (omega (arith, numbers s t)))
+      (λ n e t. absurd (omega (arith, numbers s t)))
+      (λ n m t. (ap (stopPlace 0) (sym s ∙ t), m, n))
+
+  -- the same of a call
+  module _ (b c p : ℕ) where
+    pub report-points : reportOf T b c p .points ≡ pointsIn T b c p
+    unfolding reportOf
+    report-points = refl
+
+    pub report-ended : (reportOf T b c p .stop ≡ Ended) ↔ (p + pointsIn T b c p ≡ T .end)
+    unfolding reportOf
+    report-ended = let k = pointsIn T b c p in stop-ended c (length (zerosIn T p k)) (p + k)
+
+    pub report-full : (x : Place) → reportOf T b c p .stop ≡ Full x
+        → (x .0 ≡ p + pointsIn T b c p) × (reportOf T b c p .found ≡ c) × (p + pointsIn T b c p ≡ T .end → ⊥)
+    unfolding reportOf
+    report-full x s = let k = pointsIn T b c p in stop-full c (length (zerosIn T p k)) (p + k) x s
+
+    pub report-spent : (x : Place) → reportOf T b c p .stop ≡ Spent x
+        → (x .0 ≡ p + pointsIn T b c p) × (reportOf T b c p .found < c) × (pointsIn T b c p ≡ b) × (p + pointsIn T b c p ≡ T .end → ⊥)
+    unfolding reportOf
+    report-spent x s =
+        let k = pointsIn T b c p in
+        let l = stop-spent c (length (zerosIn T p k)) (p + k) x s in
+        let m = l .1 in (
+          l .0,
+          omega (arith, zeros-room b c p, m),
+          ⊎-elim (λ e. absurd (l .2 e)) (⊎-elim (λ e. absurd (m e)) (λ e. e)) (first-stop b c p .here),
+          l .2,
+        )
+
+    -- the place that a caller gets is that of the record after
+    pub report-place : stopPlace (T .end) (reportOf T b c p .stop) ≡ p + pointsIn T b c p
+    unfolding reportOf
+    report-place = let k = pointsIn T b c p in stop-place c (length (zerosIn T p k)) (p + k)
+
+  -- ---- the list after a call
+  module _ (b p : ℕ) (l : List ℕ) where
+    pub after-length : length (listAfter T b p l) ≡ length l
+    unfolding listAfter
+    after-length =
+        let f = zerosIn T p (pointsIn T b (length l) p) in
+        omega (arith, length-append f (drop (length f) l), length-drop (length f) l, zeros-room b (length l) p)
+
+    pub after-front : take (reportOf T b (length l) p .found) (listAfter T b p l) ≡ zerosIn T p (reportOf T b (length l) p .points)
+    unfolding listAfter reportOf
+    after-front = let f = zerosIn T p (pointsIn T b (length l) p) in take-append-seam f (drop (length f) l)
+
+    pub after-drop : drop (reportOf T b (length l) p .found) (listAfter T b p l) ≡ drop (reportOf T b (length l) p .found) l
+    unfolding listAfter reportOf
+    after-drop =
+        let f = zerosIn T p (pointsIn T b (length l) p) in
+        let e : length f + 0 ≡ length f = omega arith in
+        ap (λ (j : ℕ). drop j (listAfter T b p l)) (sym e) ∙ drop-append-add f (drop (length f) l) 0
+
+    pub after-rest : (i : ℕ) → reportOf T b (length l) p .found ≤ i → getD (listAfter T b p l) i 0 ≡ getD l i 0
+    unfolding listAfter reportOf
+    after-rest i h =
+        let f = zerosIn T p (pointsIn T b (length l) p) in
+        let e : i ≡ length f + (i - length f) = omega arith in
+        ap (λ (j : ℕ). getD (listAfter T b p l) j 0) e ∙ getD-append-add f (drop (length f) l) (i - length f) 0
+        ∙ getD-drop (length f) l (i - length f) 0 ∙ ap (λ (j : ℕ). getD l j 0) (sym e)

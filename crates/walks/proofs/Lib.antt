@@ -2,3 +2,8 @@ pub mod BlockLaw
 pub mod RunLaw
 pub mod Shapes
 pub mod CallLaw
+pub mod JoinLaw
+pub mod ZeroLaw
+pub mod CostLaw
+pub mod HaltLaw
+pub mod FollowLaw

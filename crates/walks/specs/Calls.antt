@@ -5,7 +5,7 @@ use mathlib.Core.Logic.{_⊎_}
 use mathlib.Core.List.{List, [], _∷_, _++_}
 use Prim.Native.Nat.{ℕ, zero, suc, _+_, _-_, _≤_, _<_}
 use lib.Dec.{eqb}
-use lib.ListN.{length, drop}
+use lib.ListN.{length, take, drop}
 use Rattle.gray.specs.declared.Place.{Place}
 use Rattle.walks.specs.declared.Stop.{Stop}
 use Rattle.walks.specs.declared.Stop.the-variants.{Ended, Full, Spent}
@@ -18,11 +18,12 @@ pub record Trail : Type 0 where
   pub entry : ℕ → ℕ
   pub cost : ℕ → ℕ
 
--- the entries of the zeros among k places from p, in order
+-- x before l, where the test holds
 abbrev pub listed : Bool → ℕ → List ℕ → List ℕ
 listed true x l = x ∷ l
 listed false x l = l
 
+-- the entries of the zeros among k places from p, in order
 unfoldable pub zerosIn : Trail → ℕ → ℕ → List ℕ
 zerosIn T p zero = []
 zerosIn T p (suc k) = listed (T .zeroAt p) (T .entry p) (zerosIn T (suc p) k)
@@ -37,45 +38,49 @@ abbrev pub roomAfter : Bool → ℕ → ℕ
 roomAfter true c = c - 1
 roomAfter false c = c
 
--- how many places a call examines, from place p with budget b and a list of c entries: up to the end, a full list or a spent budget
+-- how many places a call examines, from place p with budget b and room for c zeros: up to the end, a full list or a spent budget
 unfoldable pub pointsIn : Trail → ℕ → ℕ → ℕ → ℕ
 pointsIn T zero c p = 0
 pointsIn T (suc b) c p = elim (eqb p (T .end) || eqb c 0) [ true ↦ 0 | false ↦ suc (pointsIn T b (roomAfter (T .zeroAt p) c) (suc p)) ]
 
--- the same said without steps: a call stops after the first k places at which it has to, the end, a full list or a spent budget
+-- the same said without steps: after k places it has to stop, and after fewer it had not
 pub record FirstStop (T : Trail) (b c p k : ℕ) : Type 0 where
   pub most : k ≤ b
   pub goes : (j : ℕ) → j < k → (p + j ≡ T .end → ⊥) × (length (zerosIn T p j) < c)
   pub here : (p + k ≡ T .end) ⊎ (length (zerosIn T p k) ≡ c) ⊎ (k ≡ b)
 
+-- a where the test holds, else what is asked next
 abbrev pub pick : Bool → Stop → Stop → Stop
 pick true a b = a
 pick false a b = b
 
--- why a call stopped before place p with f of c entries used: asked in the order ended, full, spent
+-- why a call stopped before place p with f of c entries used: asked in the order ended, full, spent;
+-- with full and spent goes the place next to be examined
 abbrev pub stopAt : Trail → ℕ → ℕ → ℕ → Stop
 stopAt T c f p = pick (eqb p (T .end)) Ended (pick (eqb f c) (Full (record { 0 = p })) (Spent (record { 0 = p })))
 
--- document 01's number of a stop, and the place that a caller gets with it: the next to be examined, or at the end the end e
+-- document 01's number of a stop
 abbrev pub stopNumber : Stop → ℕ
 stopNumber Ended = 0
 stopNumber (Full x) = 1
 stopNumber (Spent x) = 2
 
+-- the place that a caller gets with it: that of the record, which is the end e of the walk when it ended
 abbrev pub stopPlace : ℕ → Stop → ℕ
 stopPlace e Ended = e
 stopPlace e (Full x) = x .0
 stopPlace e (Spent x) = x .0
 
--- what a call from place p answers, over k places with the zeros l
+-- what a call answers that examined k places from p
 abbrev pub reportIn : Trail → ℕ → ℕ → ℕ → Report
 reportIn T c p k =
     record { stop = stopAt T c (length (zerosIn T p k)) (p + k); points = k; additions = costIn T p k; found = length (zerosIn T p k) }
 
+-- what a call answers, from place p with budget b and room for c zeros
 unfoldable pub reportOf : Trail → ℕ → ℕ → ℕ → Report
 reportOf T b c p = reportIn T c p (pointsIn T b c p)
 
--- the list after: the zeros from the front, the rest as it was
+-- the list l after a call: the zeros from the front, the rest as it was
 unfoldable pub listAfter : Trail → ℕ → ℕ → List ℕ → List ℕ
 listAfter T b p l = zerosIn T p (pointsIn T b (length l) p) ++ drop (length (zerosIn T p (pointsIn T b (length l) p))) l
 
@@ -89,7 +94,7 @@ pub record Fair (c : Call) : Type 0 where
   pub budget : 0 < c .budget
   pub room : 0 < c .room
 
--- all that the calls of a run gave together
+-- all that the calls of a run gave together: the place after, points and additions summed, lists joined
 pub record Totals : Type 0 where
   pub place : ℕ
   pub points : ℕ
@@ -102,3 +107,42 @@ totalsOf T p (c ∷ cs) =
     let k = pointsIn T (c .budget) (c .room) p in
     let r = totalsOf T (p + k) cs in
     record { place = r .place; points = k + r .points; additions = costIn T p k + r .additions; list = zerosIn T p k ++ r .list }
+
+-- no call of the run is refused
+abbrev pub AllFair : List Call → Type 0
+AllFair [] = Unit {0}
+AllFair (c ∷ cs) = Fair c × AllFair cs
+
+-- what a call of a run answers
+abbrev pub answerTo : Trail → Call → ℕ → Report
+answerTo T c p = reportOf T (c .budget) (c .room) p
+
+-- what a call promises that begins at place p: it examines the next places, at most its budget and at least one if some are left,
+-- and makes their additions; any list l that it is lent holds in front exactly the zeros among them, and the rest of l is untouched
+pub record OneCall (T : Trail) (c : Call) (p : ℕ) : Type 0 where
+  pub place : stopPlace (T .end) (answerTo T c p .stop) ≡ p + answerTo T c p .points
+  pub budget : answerTo T c p .points ≤ c .budget
+  pub one : p < T .end → 0 < answerTo T c p .points
+  pub within : p + answerTo T c p .points ≤ T .end
+  pub additions : answerTo T c p .additions ≡ costIn T p (answerTo T c p .points)
+  pub found : answerTo T c p .found ≡ length (zerosIn T p (answerTo T c p .points))
+  pub zeros : (l : List ℕ) → length l ≡ c .room → take (answerTo T c p .found) (listAfter T (c .budget) p l) ≡ zerosIn T p (answerTo T c p .points)
+  pub rest : (l : List ℕ) → length l ≡ c .room → drop (answerTo T c p .found) (listAfter T (c .budget) p l) ≡ drop (answerTo T c p .found) l
+  pub same : (l : List ℕ) → length l ≡ c .room → length (listAfter T (c .budget) p l) ≡ length l
+
+-- that of every call of a run, each begun where the one before stopped
+abbrev pub EachCall : Trail → ℕ → List Call → Type 0
+EachCall T p [] = Unit {0}
+EachCall T p (c ∷ cs) = OneCall T c p × EachCall T (p + answerTo T c p .points) cs
+
+-- demand 3, of a run from place 0 that has ended: the promise of each call, and that together they list all zeros in order,
+-- examine as many points as there are places, and make the additions of all of them
+pub record Demand3 (T : Trail) (cs : List Call) : Type 0 where
+  pub each : EachCall T 0 cs
+  pub list : totalsOf T 0 cs .list ≡ zerosIn T 0 (T .end)
+  pub points : totalsOf T 0 cs .points ≡ T .end
+  pub additions : totalsOf T 0 cs .additions ≡ costIn T 0 (T .end)
+
+-- the same walk with another end
+abbrev pub until : Trail → ℕ → Trail
+until T e = record { end = e; zeroAt = T .zeroAt; entry = T .entry; cost = T .cost }
