@@ -5,3 +5,4 @@ pub mod LatestLaw
 pub mod PartLaw
 pub mod DigitLaw
 pub mod MapLaw
+pub mod TurnLaw
