@@ -5,4 +5,3 @@ pub mod LatestLaw
 pub mod PartLaw
 pub mod DigitLaw
 pub mod MapLaw
-pub mod TurnLaw

@@ -2,3 +2,4 @@ pub mod Opened
 pub mod Parts
 pub mod Search
 pub mod Session
+pub mod Demand

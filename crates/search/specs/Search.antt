@@ -1,7 +1,7 @@
 -- What one call of the search gives, for every table, record, budget and list whatever.
 use mathlib.Core.Bool.{Bool, true, false, not, _&&_}
 use mathlib.Core.List.{List, [], _∷_}
-use Prim.Native.Nat.{ℕ, zero, suc, _+_, _%_, _^_, min}
+use Prim.Native.Nat.{ℕ, zero, suc, _+_, _%_, _^_}
 use lib.Dec.{eqb, leb}
 use lib.ListN.{length}
 use Rattle.refusals.specs.declared.Refusal.the-variants as refusal
@@ -9,10 +9,10 @@ use Rattle.refusals.specs.declared.Verdict.{Verdict}
 use Rattle.refusals.specs.declared.Verdict.the-variants as verdict
 use Rattle.refusals.specs.Refusal.{numberOf, refuse, sized, after}
 use Rattle.trits.specs.declared.Vector.{Vector}
-use Rattle.gray.specs.Positions.{positions}
 use Rattle.gray.specs.Numbers.{pointDigit, pointOf}
 use Rattle.polynomials.specs.Poly.{valueOf}
 use Rattle.tables.specs.Answers.{long, paired}
+use Rattle.walks.specs.Cost.{costOf}
 use Rattle.walks.specs.Calls.{Trail, pointsIn, reportOf, listAfter}
 use Rattle.walks.specs.declared.Report.{Report}
 use Rattle.search.specs.declared.Record.{Record}
@@ -34,7 +34,7 @@ trailOf n m t =
       end = 3 ^ n;
       zeroAt = λ p. allZero m (λ e. valueOf (systemOf n t e) n (pointDigit 3 p));
       entry = pointOf 3 n;
-      cost = λ p. min 2 (length (positions 3 p));
+      cost = costOf 3 2;
     }
 
 -- whether two vectors, two lists of them and two records are the same
