@@ -1,4 +1,3 @@
-pub mod Trial
 pub mod RecordLaw
 pub mod VerdictLaw
 pub mod SessionLaw
