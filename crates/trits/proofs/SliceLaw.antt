@@ -9,8 +9,21 @@ use Rattle.trits.specs.declared.Vector.{Vector}
 use Rattle.trits.specs.Trit.{bit, trit, Legal, Holds}
 use Rattle.trits.proofs.Bits.{bit-lt, at-bits4, both4, imp, and-left, and-right}
 
--- the high and the low bit of the result, from the bits of both operands; and the result in arithmetic
-module _ (high low : ℕ → ℕ → ℕ → ℕ → ℕ) (f : ℕ → ℕ → ℕ) where
+-- the pair of bits e of a vector: a vector of one trit
+abbrev pub single : ℕ → ℕ → Vector
+single x1 x0 = record { high = x1; low = x0 }
+
+abbrev pub place : Vector → ℕ → Vector
+place v e = single (bit (v .high) e) (bit (v .low) e)
+
+-- an operation on two vectors, and what it should be of two trits
+module _ (op : Vector → Vector → Vector) (f : ℕ → ℕ → ℕ) where
+  abbrev high : ℕ → ℕ → ℕ → ℕ → ℕ
+  high x1 x0 y1 y0 = op (single x1 x0) (single y1 y0) .high
+
+  abbrev low : ℕ → ℕ → ℕ → ℕ → ℕ
+  low x1 x0 y1 y0 = op (single x1 x0) (single y1 y0) .low
+
   abbrev paired : ℕ → ℕ → ℕ → ℕ → Bool
   paired x1 x0 y1 y0 = leb (low x1 x0 y1 y0) (high x1 x0 y1 y0)
 
@@ -27,20 +40,22 @@ module _ (high low : ℕ → ℕ → ℕ → ℕ → ℕ) (f : ℕ → ℕ → �
       let t = simp (le-leb x0 x1 p, le-leb y0 y1 q) at (at-bits4 test ok x1 x0 y1 y0 h1 h2 h3 h4) in
       (leb-true _ _ (and-left (paired x1 x0 y1 y0) (right x1 x0 y1 y0) t), eqb-true _ _ (and-right (paired x1 x0 y1 y0) (right x1 x0 y1 y0) t))
 
-  module _ (ok : both4 test ≡ true) (a b r : Vector) (m : ℕ) (la : Legal m a) (lb : Legal m b)
-      (highs : (e : ℕ) → bit (r .high) e ≡ high (bit (a .high) e) (bit (a .low) e) (bit (b .high) e) (bit (b .low) e))
-      (lows : (e : ℕ) → bit (r .low) e ≡ low (bit (a .high) e) (bit (a .low) e) (bit (b .high) e) (bit (b .low) e)) where
-    here : (e : ℕ) → (bit (r .low) e ≤ bit (r .high) e) × (bit (r .high) e + bit (r .low) e ≡ f (bit (a .high) e + bit (a .low) e) (bit (b .high) e + bit (b .low) e) % 3)
+  -- it passes the test, gives nothing for nothing, and works at each place on its own
+  module _ (ok : both4 test ≡ true) (zero-high : high 0 0 0 0 ≡ 0) (a b : Vector)
+      (highs : (e : ℕ) → bit (op a b .high) e ≡ op (place a e) (place b e) .high)
+      (lows : (e : ℕ) → bit (op a b .low) e ≡ op (place a e) (place b e) .low)
+      (m : ℕ) (la : Legal m a) (lb : Legal m b) where
+    here : (e : ℕ) → (bit (op a b .low) e ≤ bit (op a b .high) e) × (bit (op a b .high) e + bit (op a b .low) e ≡ f (bit (a .high) e + bit (a .low) e) (bit (b .high) e + bit (b .low) e) % 3)
     here e = rw (highs e, lows e) (at ok _ _ _ _ (bit-lt (a .high) e) (bit-lt (a .low) e) (bit-lt (b .high) e) (bit-lt (b .low) e) (la .paired e) (lb .paired e))
 
-    past : (e : ℕ) → m ≤ e → high 0 0 0 0 ≡ 0 → bit (r .high) e ≡ 0
-    past e h z =
+    past : (e : ℕ) → m ≤ e → bit (op a b .high) e ≡ 0
+    past e h =
         let p = la .above e h in
         let q = lb .above e h in
         let s : bit (a .low) e ≡ 0 = omega (arith, la .paired e) in
         let t : bit (b .low) e ≡ 0 = omega (arith, lb .paired e) in
-        rw (highs e, p, q, s, t) z
+        rw (highs e, p, q, s, t) zero-high
 
-    pub slices : high 0 0 0 0 ≡ 0 → Holds m (λ e. f (trit a e) (trit b e)) r
+    pub slices : Holds m (λ e. f (trit a e) (trit b e)) (op a b)
     unfolding trit
-    slices z = record { legal = record { paired = λ e. here e .0; above = λ e h. past e h z }; each = λ e h. here e .1 }
+    slices = record { legal = record { paired = λ e. here e .0; above = past }; each = λ e h. here e .1 }

@@ -1,9 +1,7 @@
 -- Sums, negations, products and multiples of legal vectors are legal, and are what they should be at each trit.
 use mathlib.Core.Path.{_≡_, refl, ap, _∙_}
 use Prim.Native.Nat.{ℕ, zero, suc, _+_, _*_, _%_, _<_}
-use native.Mathlib.Nat.{mod-lt}
 use native.Mathlib.Omega.{arith}
-use lib.Bits.{bitAnd, bitOr, bitXor}
 use Rattle.residues.proofs.ModLaw.{mul-mod}
 use Rattle.trits.specs.declared.Vector.{Vector}
 use Rattle.trits.specs.Trit.{trit, Legal, Holds, none}
@@ -14,21 +12,15 @@ use Rattle.trits.proofs.LegalLaw.{trit-lt, trit-none, legal-none}
 
 pub meets : (a b : Vector) (m : ℕ) → Legal m a → Legal m b → Holds m (λ e. trit a e + trit b e) (addOf a b)
 unfolding addOf
-meets a b m la lb =
-    slices (λ x1 x0 y1 y0. bitOr (bitXor x1 y1) (bitXor (bitXor x0 y1) y0)) (λ x1 x0 y1 y0. bitAnd (bitXor x1 y0) (bitXor x0 y1)) (λ x y. x + y)
-    refl a b (addOf a b) m la lb (λ e. simp bits) (λ e. simp bits) refl
+meets a b = slices addOf (λ x y. x + y) refl refl a b (λ e. simp bits) (λ e. simp bits)
 
 pub negated : (v : Vector) (m : ℕ) → Legal m v → Holds m (λ e. 2 * trit v e) (negateOf v)
 unfolding negateOf
-negated v m l =
-    slices (λ x1 x0 y1 y0. x1) (λ x1 x0 y1 y0. bitXor x1 x0) (λ x y. 2 * x)
-    refl v v (negateOf v) m l l (λ e. refl) (λ e. simp bits) refl
+negated v m l = slices (λ a b. negateOf a) (λ x y. 2 * x) refl refl v v (λ e. refl) (λ e. simp bits) m l l
 
 pub multiplied : (a b : Vector) (m : ℕ) → Legal m a → Legal m b → Holds m (λ e. trit a e * trit b e) (productOf a b)
 unfolding productOf
-multiplied a b m la lb =
-    slices (λ x1 x0 y1 y0. bitAnd x1 y1) (λ x1 x0 y1 y0. bitAnd (bitAnd x1 y1) (bitXor x0 y0)) (λ x y. x * y)
-    refl a b (productOf a b) m la lb (λ e. simp bits) (λ e. simp bits) refl
+multiplied a b = slices productOf (λ x y. x * y) refl refl a b (λ e. simp bits) (λ e. simp bits)
 
 -- by a remainder
 times-in : (k : ℕ) (v : Vector) (m : ℕ) → k < 3 → Legal m v → Holds m (λ e. trit v e * k) (timesIn k v)
