@@ -77,8 +77,8 @@ module _ (n m : ℕ) (c : List ℕ) (e : ℕ) (l : e < m) where
   -- the entry of xb xc: what the change of unknown b grows by, from its move before place p + 1 to place p + 1, whose first positions are b and c
   pub product-means : (p : ℕ) → suc p < 3 ^ n → 0 < suc p - 3 ^ lowestOf 3 (suc p)
       → let b = lowestOf 3 (suc p) in
-        changeOf 3 (polyAt n c e) n b (pointDigit 3 (latest 3 b (suc p) - 1))
-        ≡ (changeOf 3 (polyAt n c e) n b (pointDigit 3 (latest 3 b p - 1)) + tableOf 3 (polyAt n c e) .quad b (lowestOf 3 (suc p - 3 ^ b))) % 3
+      changeOf 3 (polyAt n c e) n b (pointDigit 3 (latest 3 b (suc p) - 1))
+      ≡ (changeOf 3 (polyAt n c e) n b (pointDigit 3 (latest 3 b p - 1)) + tableOf 3 (polyAt n c e) .quad b (lowestOf 3 (suc p - 3 ^ b))) % 3
   unfolding slotAt
   product-means p h z =
       let f = polyAt n c e in
