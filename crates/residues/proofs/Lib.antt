@@ -1,3 +1,4 @@
 pub mod Every
+pub mod FloorLaw
 pub mod ModLaw
 pub mod SumLaw

@@ -13,3 +13,8 @@ pub record Remainder (q : ℕ) (c : ℤ) (r : ℕ) : Type 0 where
 abbrev pub floorMod : ℕ → ℤ → ℕ
 floorMod q (pos n) = n % q
 floorMod q (negsuc n) = q - 1 - n % q
+
+-- what is given back for the coefficient c: its floor remainder modulo 3
+pub record Reduced (c : ℤ) (r : ℕ) : Type 0 where
+  pub computed : r ≡ floorMod 3 c
+  pub remainder : Remainder 3 c r

@@ -1,4 +1,7 @@
 pub mod Bits
+pub mod SliceLaw
 pub mod SumLaw
 pub mod LegalLaw
 pub mod ExtLaw
+pub mod PutLaw
+pub mod WordLaw

@@ -2,7 +2,7 @@
 use mathlib.Core.Path.{_≡_}
 use mathlib.Core.Bool.{Bool, true, _&&_}
 use mathlib.Core.Logic.{_↔_}
-use Prim.Native.Nat.{ℕ, zero, suc, _+_, _-_, _*_, _/_, _%_, _^_, _<_}
+use Prim.Native.Nat.{ℕ, zero, suc, _+_, _-_, _*_, _/_, _%_, _^_, _≤_, _<_}
 use lib.Dec.{eqb}
 use lib.Bits.{bitAnd, bitOr, bitXor}
 use Rattle.trits.specs.declared.Vector.{Vector}
@@ -62,7 +62,13 @@ pub record Put (v : Vector) (e t : ℕ) (r : Vector) : Type 0 where
   pub low : e < 64 → bit (r .low) e ≡ t % 3 / 2
   pub other-high : (k : ℕ) → (k ≡ e → ⊥) → bit (r .high) k ≡ bit (v .high) k
   pub other-low : (k : ℕ) → (k ≡ e → ⊥) → bit (r .low) k ≡ bit (v .low) k
+  pub past : 64 ≤ e → r ≡ v
 
 -- whether a pair is legal, as a test of its words: the mask keeps all of the low word, and nothing is left above m
 abbrev pub isLegal : ℕ → Vector → Bool
 isLegal m v = eqb (bitAnd (v .high) (v .low)) (v .low) && eqb (v .high / 2 ^ m) 0
+
+-- what that test says of any two words: they are a legal vector of m trits, or not
+pub record Judged (m : ℕ) (v : Vector) (r : Bool) : Type 0 where
+  pub word : r ≡ isLegal m v
+  pub legal : (r ≡ true) ↔ Legal m v

@@ -10,6 +10,7 @@ use mir.Val.{toZ, ofZ}
 use borrow.Author.Tests.{ltb-true, eqb-true}
 use Rattle.residues.specs.Residue.{floorMod}
 use Rattle.residues.proofs.Every.{imp, at-i8}
+use Rattle.residues.proofs.FloorLaw.{reduced}
 use Rattle.residues.proofs.remainder.Statement.{statement}
 use Rattle.residues.proofs.remainder.Tie as tie
 
@@ -48,10 +49,10 @@ cast-result-2 c = (
 )
 
 returns : tie.Need-returns
-returns c = eqb-true _ _ (simp (c .if1 .taken) at (at-i8 (λ z. imp (below-zero z) (eqb (natAbs (held (more z))) (floorMod 3 z))) refl (c .before .args .c) (c .before .fits .c)))
+returns c = reduced (eqb-true _ _ (simp (c .if1 .taken) at (at-i8 (λ z. imp (below-zero z) (eqb (natAbs (held (more z))) (floorMod 3 z))) refl (c .before .args .c) (c .before .fits .c))))
 
 returns-2 : tie.Need-returns-2
-returns-2 c = eqb-true _ _ (simp (c .if1 .left) at (at-i8 (λ z. below-zero z || eqb (natAbs (rem z)) (floorMod 3 z)) refl (c .before .args .c) (c .before .fits .c)))
+returns-2 c = reduced (eqb-true _ _ (simp (c .if1 .left) at (at-i8 (λ z. below-zero z || eqb (natAbs (rem z)) (floorMod 3 z)) refl (c .before .args .c) (c .before .fits .c))))
 
 pub remainder-spec : {M : Type 1} → statement M
 remainder-spec = tie.close (tie.spec rem-r add-result cast-result cast-result-2 returns returns-2)

@@ -1,0 +1,46 @@
+-- An operation that works at each place on its own: a test at the sixteen fours of bits says it of all vectors.
+use mathlib.Core.Path.{_≡_, refl, sym, ap, _∙_, subst}
+use mathlib.Core.Bool.{Bool, true, false, _&&_}
+use Prim.Native.Nat.{ℕ, _+_, _%_, _≤_, _<_}
+use native.Mathlib.Omega.{arith}
+use lib.Dec.{leb, eqb}
+use borrow.Author.Tests.{leb-true, le-leb, eqb-true}
+use Rattle.trits.specs.declared.Vector.{Vector}
+use Rattle.trits.specs.Trit.{bit, trit, Legal, Holds}
+use Rattle.trits.proofs.Bits.{bit-lt, at-bits4, both4, imp, and-left, and-right}
+
+-- the high and the low bit of the result, from the bits of both operands; and the result in arithmetic
+module _ (high low : ℕ → ℕ → ℕ → ℕ → ℕ) (f : ℕ → ℕ → ℕ) where
+  abbrev paired : ℕ → ℕ → ℕ → ℕ → Bool
+  paired x1 x0 y1 y0 = leb (low x1 x0 y1 y0) (high x1 x0 y1 y0)
+
+  abbrev right : ℕ → ℕ → ℕ → ℕ → Bool
+  right x1 x0 y1 y0 = eqb (high x1 x0 y1 y0 + low x1 x0 y1 y0) (f (x1 + x0) (y1 + y0) % 3)
+
+  -- at four bits, the low ones not above their high ones: the result is paired, and is f modulo 3
+  abbrev pub test : ℕ → ℕ → ℕ → ℕ → Bool
+  test x1 x0 y1 y0 = imp (leb x0 x1) (imp (leb y0 y1) (paired x1 x0 y1 y0 && right x1 x0 y1 y0))
+
+  at : both4 test ≡ true → (x1 x0 y1 y0 : ℕ) → x1 < 2 → x0 < 2 → y1 < 2 → y0 < 2 → x0 ≤ x1 → y0 ≤ y1
+      → (low x1 x0 y1 y0 ≤ high x1 x0 y1 y0) × (high x1 x0 y1 y0 + low x1 x0 y1 y0 ≡ f (x1 + x0) (y1 + y0) % 3)
+  at ok x1 x0 y1 y0 h1 h2 h3 h4 p q =
+      let t = simp (le-leb x0 x1 p, le-leb y0 y1 q) at (at-bits4 test ok x1 x0 y1 y0 h1 h2 h3 h4) in
+      (leb-true _ _ (and-left (paired x1 x0 y1 y0) (right x1 x0 y1 y0) t), eqb-true _ _ (and-right (paired x1 x0 y1 y0) (right x1 x0 y1 y0) t))
+
+  module _ (ok : both4 test ≡ true) (a b r : Vector) (m : ℕ) (la : Legal m a) (lb : Legal m b)
+      (highs : (e : ℕ) → bit (r .high) e ≡ high (bit (a .high) e) (bit (a .low) e) (bit (b .high) e) (bit (b .low) e))
+      (lows : (e : ℕ) → bit (r .low) e ≡ low (bit (a .high) e) (bit (a .low) e) (bit (b .high) e) (bit (b .low) e)) where
+    here : (e : ℕ) → (bit (r .low) e ≤ bit (r .high) e) × (bit (r .high) e + bit (r .low) e ≡ f (bit (a .high) e + bit (a .low) e) (bit (b .high) e + bit (b .low) e) % 3)
+    here e = rw (highs e, lows e) (at ok _ _ _ _ (bit-lt (a .high) e) (bit-lt (a .low) e) (bit-lt (b .high) e) (bit-lt (b .low) e) (la .paired e) (lb .paired e))
+
+    past : (e : ℕ) → m ≤ e → high 0 0 0 0 ≡ 0 → bit (r .high) e ≡ 0
+    past e h z =
+        let p = la .above e h in
+        let q = lb .above e h in
+        let s : bit (a .low) e ≡ 0 = omega (arith, la .paired e) in
+        let t : bit (b .low) e ≡ 0 = omega (arith, lb .paired e) in
+        rw (highs e, p, q, s, t) z
+
+    pub slices : high 0 0 0 0 ≡ 0 → Holds m (λ e. f (trit a e) (trit b e)) r
+    unfolding trit
+    slices z = record { legal = record { paired = λ e. here e .0; above = λ e h. past e h z }; each = λ e h. here e .1 }
