@@ -1,2 +1,3 @@
 pub mod Positions
 pub mod Numbers
+pub mod Parts

@@ -1,4 +1,12 @@
-// Places and points of the walk in Gray order.
+// Places and points of the walk in Gray order, and the positions that say which unknown moves.
+mod positions;
+
+pub use positions::Parts;
+pub use positions::PositionAnswer;
+pub use positions::first_position;
+pub use positions::position;
+pub use positions::power;
+pub use positions::split;
 
 // A position in the walk, counted from 0.
 pub struct Place(pub u64);
