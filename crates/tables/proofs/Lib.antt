@@ -4,3 +4,4 @@ pub mod WordLaw
 pub mod AgreeLaw
 pub mod RoundLaw
 pub mod EntryLaw
+pub mod AnswerLaw
