@@ -1,3 +1,4 @@
 pub mod Monomials
 pub mod Words
 pub mod Answers
+pub mod Differences

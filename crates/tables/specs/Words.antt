@@ -2,9 +2,9 @@
 use mathlib.Core.Path.{_≡_}
 use mathlib.Core.Bool.{Bool, true, false}
 use mathlib.Core.List.{List, [], _∷_}
-use Prim.Native.Nat.{ℕ, zero, suc, _+_, _*_, _<_}
+use Prim.Native.Nat.{ℕ, zero, suc, _+_, _*_, _≤_, _<_}
 use lib.IntN.{ℤ, pos}
-use lib.ListN.{length, getD}
+use lib.ListN.{length, getD, set}
 use Rattle.residues.specs.Residue.{floorMod}
 use Rattle.trits.specs.declared.Vector.{Vector}
 use Rattle.trits.specs.Trit.{trit, Legal, ofTrits}
@@ -16,6 +16,16 @@ use Rattle.tables.specs.Monomials.{countOf, indexOf, nth}
 -- entry k of a table
 unfoldable pub entry : List ℕ → ℕ → Vector
 entry t k = record { high = getD t (2 * k) 0; low = getD t (2 * k + 1) 0 }
+
+-- a table with v as its entry k
+unfoldable pub putAt : List ℕ → ℕ → Vector → List ℕ
+putAt t k v = set (set t (2 * k) (v .high)) (2 * k + 1) (v .low)
+
+-- new is old with the entries of g from a up to b, b not among them
+pub record Written (g : List ℕ) (a b : ℕ) (old new : List ℕ) : Type 0 where
+  pub size : length new ≡ length old
+  pub here : (k : ℕ) → a ≤ k → k < b → entry new k ≡ entry g k
+  pub kept : (k : ℕ) → (a ≤ k → k < b → ⊥) → entry new k ≡ entry old k
 
 -- the words of the k vectors g 0, g 1, ..
 unfoldable pub tabled : ℕ → (ℕ → Vector) → List ℕ

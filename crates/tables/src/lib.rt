@@ -3,8 +3,10 @@
 use refusals::Refusal;
 use trits::Vector;
 
+mod checks;
 mod monomials;
 
+pub use checks::check;
 pub use monomials::entry;
 pub use monomials::vector;
 
