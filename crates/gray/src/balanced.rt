@@ -1,5 +1,7 @@
 // Balanced numbers: digit 2 of a point read as -1. Adding (3^n - 1) / 2 makes each digit one larger modulo 3.
-use crate::{Point, PointAnswer, BalancedAnswer};
+use crate::BalancedAnswer;
+use crate::Point;
+use crate::PointAnswer;
 use crate::positions::power;
 use refusals::Refusal;
 ghost use mathlib.Core.Path.{_≡_};

@@ -1,5 +1,8 @@
 // The Gray map, digit by digit: the only way from a place to a point and back.
-use crate::{Place, Point, PointAnswer, PlaceAnswer};
+use crate::Place;
+use crate::PlaceAnswer;
+use crate::Point;
+use crate::PointAnswer;
 use crate::positions::power;
 use refusals::Refusal;
 ghost use mathlib.Core.Path.{_≡_};
