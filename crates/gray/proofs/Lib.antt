@@ -5,3 +5,7 @@ pub mod LatestLaw
 pub mod PartLaw
 pub mod DigitLaw
 pub mod MapLaw
+pub mod TurnLaw
+pub mod AnswerLaw
+pub mod SignLaw
+pub mod BalancedLaw
