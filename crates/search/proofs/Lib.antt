@@ -7,3 +7,4 @@ pub mod ChangeLaw
 pub mod SlotsLaw
 pub mod SystemLaw
 pub mod DemandLaw
+pub mod Starred
