@@ -7,6 +7,7 @@ use trits::Vector;
 use walks::Report;
 
 mod opening;
+mod records;
 
 // The walk of one table, between two calls. Slots from n to 19 are zero.
 pub struct Record {
