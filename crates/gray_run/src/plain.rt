@@ -1,7 +1,5 @@
 // The rules of document 01 on places, points, positions and balanced numbers, digit by digit.
 ghost use Prim.Native.Nat.{_<_, _≤_};
-ghost use mathlib.Core.Path.{_≡_};
-ghost use lib.IntN.{pos, _-ℤ_};
 
 // Digit k of p: p divided by 3 k times, and its remainder.
 fn digit(p: u64, k: u64) -> u64
