@@ -5,7 +5,7 @@ use native.Mathlib.Omega.{arith}
 use lib.IntN.{ℤ, pos, _-ℤ_}
 use Rattle.refusals.specs.declared.Verdict.the-variants as verdict
 use Rattle.gray.specs.Balanced.{halfOf, turned}
-use Rattle.gray.proofs.TurnLaw.{power-small, power-above, turned-small}
+use Rattle.gray.proofs.TurnLaw.{power-small, power-above, turned-word}
 use Rattle.gray.proofs.AnswerLaw.{done-so, balanced-meets}
 use Rattle.gray.proofs.BalancedLaw.{half-is, balanced-is}
 use Rattle.gray.proofs.SignLaw.{held-minus}
@@ -56,7 +56,7 @@ minus-requires c κs =
     let a = c .before .before .before .before .before .args in
     let d = done-so (a .n) (a .x .0) (sym (c .before .before .before .before .convertible .ensures) ∙ c .before .before .enum-told .given .1) in
     let e = c .before .power .ensures .0 (omega arith) in
-    (omega (arith, c .turn .ensures, turned-small 1 (a .n) (a .x .0) (d .1)), omega (arith, power-small (a .n) (d .1)))
+    (turned-word _ _ _ _ (d .1) (c .turn .ensures), omega (arith, power-small (a .n) (d .1)))
 
 -- src/balanced.rt:42:1
 returns : tie.Need-returns
@@ -71,7 +71,7 @@ returns-2 c =
     let e = c .before .before .power .ensures .0 (omega arith) in
     balanced-meets verdict.Done _ _ _ v
     (held-minus (c .minus .result) (c .before .turn .result) ((c .before .before .power .result - 1) / 2)
-    (omega (arith, c .before .turn .ensures, turned-small 1 (a .n) (a .x .0) (d .1))) (omega (arith, power-small (a .n) (d .1))) (c .minus .ensures)
+    (turned-word _ _ _ _ (d .1) (c .before .turn .ensures)) (omega (arith, power-small (a .n) (d .1))) (c .minus .ensures)
     ∙ ap₂ (λ (x y : ℕ). pos x -ℤ pos y) (c .before .turn .ensures) (half-is (a .n) _ e) ∙ sym (balanced-is (a .n) (a .x .0)))
 
 pub to-balanced-spec : {M : Type 1} → statement M
