@@ -66,6 +66,9 @@ turned-lt a n x = number-lt 3 two n (λ k. (digit 3 x k + a) % 3) (λ k l. mod-l
 pub turned-small : (a i y : ℕ) → i ≤ 20 → turned a i y < 3486784401
 turned-small a i y h = omega (arith, turned-lt a i y, power-small i h)
 
+pub turned-word : (t a i y : ℕ) → i ≤ 20 → t ≡ turned a i y → t ≤ 4294967296
+turned-word t a i y h e = omega (arith, e, turned-small a i y h)
+
 pub turned-none : (a y : ℕ) → turned a 0 y ≡ 0
 unfolding turned number
 turned-none a y = refl
