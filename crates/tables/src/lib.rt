@@ -4,6 +4,7 @@ use refusals::Refusal;
 use trits::Vector;
 
 mod checks;
+mod differences;
 mod monomials;
 
 pub use checks::check;
