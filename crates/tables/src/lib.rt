@@ -4,10 +4,12 @@ use refusals::Refusal;
 use trits::Vector;
 
 mod checks;
-mod differences;
+mod formulas;
 mod monomials;
 
 pub use checks::check;
+pub use formulas::coefficients;
+pub use formulas::differences;
 pub use monomials::entry;
 
 // The value of each equation at a point, or why there is none.

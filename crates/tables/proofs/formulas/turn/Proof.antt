@@ -1,4 +1,4 @@
--- `tables::differences::turn` meets its contract: its vectors are those of document 01's formulas.
+-- `tables::formulas::turn` meets its contract: its vectors are those of document 01's formulas.
 use mathlib.Core.Path.{_≡_, refl, sym, ap, _∙_}
 use Prim.Native.Nat.{ℕ, _+_, _-_, _*_, _≤_, _<_}
 use native.Mathlib.Omega.{arith}
@@ -8,11 +8,11 @@ use Rattle.tables.proofs.IndexLaw.{index-lt, count-is}
 use Rattle.tables.proofs.TurnLaw.{turn-next}
 use Rattle.tables.proofs.WriteLaw.{length-put}
 use borrow.Author.Needs.{needs}
-use Rattle.tables.proofs.differences.turn.Statement.{statement}
-use Rattle.tables.proofs.differences.turn.Tie as tie
-use Rattle.tables.proofs.differences.turn.Reads as reads
-use Rattle.tables.proofs.differences.turn.Lts as lts
-use Rattle.tables.proofs.differences.turn_products.Reads as turn-products-reads
+use Rattle.tables.proofs.formulas.turn.Statement.{statement}
+use Rattle.tables.proofs.formulas.turn.Tie as tie
+use Rattle.tables.proofs.formulas.turn.Reads as reads
+use Rattle.tables.proofs.formulas.turn.Lts as lts
+use Rattle.tables.proofs.formulas.turn_products.Reads as turn-products-reads
 use Rattle.tables.proofs.monomials.entry.Reads as entry-reads
 use Rattle.tables.proofs.monomials.index.Reads as index-reads
 use Rattle.tables.proofs.monomials.put_entry.Reads as put-entry-reads

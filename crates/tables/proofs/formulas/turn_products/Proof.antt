@@ -1,4 +1,4 @@
--- `tables::differences::turn_products` meets its contract. The invariant: the products before j are written.
+-- `tables::formulas::turn_products` meets its contract. The invariant: the products before j are written.
 use mathlib.Core.Path.{_≡_, refl, sym, ap, _∙_}
 use mathlib.Core.List.{List}
 use Prim.Native.Nat.{ℕ, _+_, _-_, _*_, _≤_, _<_}
@@ -10,10 +10,10 @@ use Rattle.tables.specs.Words.{Table, Products, Written}
 use Rattle.tables.proofs.TurnLaw.{products-none, products-next, products-all}
 use Rattle.tables.proofs.WriteLaw.{length-put}
 use borrow.Author.Needs.{needs}
-use Rattle.tables.proofs.differences.turn_products.Statement.{statement}
-use Rattle.tables.proofs.differences.turn_products.Tie as tie
-use Rattle.tables.proofs.differences.turn_products.Reads as reads
-use Rattle.tables.proofs.differences.turn_products.Lts as lts
+use Rattle.tables.proofs.formulas.turn_products.Statement.{statement}
+use Rattle.tables.proofs.formulas.turn_products.Tie as tie
+use Rattle.tables.proofs.formulas.turn_products.Reads as reads
+use Rattle.tables.proofs.formulas.turn_products.Lts as lts
 use Rattle.tables.proofs.monomials.index.Reads as index-reads
 use Rattle.tables.proofs.monomials.put_entry.Reads as put-entry-reads
 use Rattle.tables.proofs.monomials.vector.Reads as vector-reads

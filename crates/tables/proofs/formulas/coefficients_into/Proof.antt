@@ -1,4 +1,4 @@
--- `tables::differences::coefficients_into` meets its contract. The invariant: the unknowns before i are done.
+-- `tables::formulas::coefficients_into` meets its contract. The invariant: the unknowns before i are done.
 use mathlib.Core.Path.{_≡_, refl, sym, ap, _∙_}
 use Prim.Native.Nat.{ℕ, _+_, _-_, _*_, _≤_, _<_}
 use native.Mathlib.Omega.{arith}
@@ -10,12 +10,12 @@ use Rattle.tables.proofs.RoundLaw.{coefficients-table}
 use Rattle.tables.proofs.TurnLaw.{before-legal, coefficients-first, coefficients-turned}
 use Rattle.tables.proofs.WriteLaw.{filled-none, filled-all, before-filled}
 use borrow.Author.Needs.{needs}
-use Rattle.tables.proofs.differences.coefficients_into.Statement.{statement}
-use Rattle.tables.proofs.differences.coefficients_into.Tie as tie
-use Rattle.tables.proofs.differences.coefficients_into.Reads as reads
-use Rattle.tables.proofs.differences.coefficients_into.Lts as lts
-use Rattle.tables.proofs.differences.product_before.Reads as product-before-reads
-use Rattle.tables.proofs.differences.turn.Reads as turn-reads
+use Rattle.tables.proofs.formulas.coefficients_into.Statement.{statement}
+use Rattle.tables.proofs.formulas.coefficients_into.Tie as tie
+use Rattle.tables.proofs.formulas.coefficients_into.Reads as reads
+use Rattle.tables.proofs.formulas.coefficients_into.Lts as lts
+use Rattle.tables.proofs.formulas.product_before.Reads as product-before-reads
+use Rattle.tables.proofs.formulas.turn.Reads as turn-reads
 use Rattle.tables.proofs.monomials.put_entry.Reads as put-entry-reads
 use Rattle.tables.proofs.monomials.vector.Reads as vector-reads
 

@@ -85,3 +85,27 @@ fn coefficients_into(from: &[u64], to: &mut [u64], n: usize)
         i += 1;
     }
 }
+
+// The table of differences of a coefficient table: `table` is written whole, or on a refusal left as it was.
+pub fn differences(n: u64, m: u64, coefficients: &[u64], table: &mut [u64]) -> Verdict
+    ensures { λ r. ⌜ r ≡ copyVerdict n m (now (coefficients .entry)) (now (table .entry)) ⌝ }
+    ensures left { λ r. ⌜ now (table .exit) ≡ differencesAfter n m (now (coefficients .entry)) (now (table .entry)) ⌝ }
+{
+    let verdict = check_copy(n, m, coefficients, table.len());
+    if let Verdict::Done = verdict {
+        differences_into(coefficients, table, n as usize);
+    }
+    verdict
+}
+
+// The coefficients of a table of differences: `coefficients` is written whole, or on a refusal left as it was.
+pub fn coefficients(n: u64, m: u64, table: &[u64], coefficients: &mut [u64]) -> Verdict
+    ensures { λ r. ⌜ r ≡ copyVerdict n m (now (table .entry)) (now (coefficients .entry)) ⌝ }
+    ensures left { λ r. ⌜ now (coefficients .exit) ≡ coefficientsAfter n m (now (table .entry)) (now (coefficients .entry)) ⌝ }
+{
+    let verdict = check_copy(n, m, table, coefficients.len());
+    if let Verdict::Done = verdict {
+        coefficients_into(table, coefficients, n as usize);
+    }
+    verdict
+}

@@ -1,13 +1,13 @@
--- `tables::differences::product_before` meets its contract: unknown 0 has none before it.
+-- `tables::formulas::product_before` meets its contract: unknown 0 has none before it.
 use mathlib.Core.Path.{_≡_, sym, ap, _∙_}
 use Prim.Native.Nat.{ℕ, zero, suc, _+_, _-_, _<_}
 use native.Mathlib.Omega.{arith}
 use Rattle.tables.proofs.WriteLaw.{before-none, before-some}
 use borrow.Author.Needs.{needs}
-use Rattle.tables.proofs.differences.product_before.Statement.{statement}
-use Rattle.tables.proofs.differences.product_before.Tie as tie
-use Rattle.tables.proofs.differences.product_before.Reads as reads
-use Rattle.tables.proofs.differences.product_before.Lts as lts
+use Rattle.tables.proofs.formulas.product_before.Statement.{statement}
+use Rattle.tables.proofs.formulas.product_before.Tie as tie
+use Rattle.tables.proofs.formulas.product_before.Reads as reads
+use Rattle.tables.proofs.formulas.product_before.Lts as lts
 use Rattle.tables.proofs.monomials.entry.Reads as entry-reads
 
 returns : tie.Need-returns
