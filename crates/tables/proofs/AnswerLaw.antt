@@ -6,14 +6,16 @@ use Prim.Native.Nat.{ℕ, _*_, _≤_, _<_}
 use native.Mathlib.Omega.{arith}
 use lib.Dec.{ltb, eqb}
 use lib.ListN.{length}
-use borrow.Author.Tests.{lt-ltb, le-ltb, eq-eqb, ne-eqb}
+use borrow.Author.Tests.{lt-ltb, le-ltb, eq-eqb, ne-eqb, ltb-false, eqb-true, not-false}
+use Rattle.refusals.specs.declared.Refusal.{Refusal}
 use Rattle.refusals.specs.declared.Refusal.the-variants.{Size, Length, Pair}
 use Rattle.refusals.specs.declared.Verdict.{Verdict}
 use Rattle.refusals.specs.declared.Verdict.the-variants.{Done, Refused}
 use Rattle.refusals.specs.Refusal.{refuse, sized}
 use Rattle.tables.specs.Monomials.{countOf}
-use Rattle.tables.specs.Words.{legalFront}
+use Rattle.tables.specs.Words.{legalFront, Table}
 use Rattle.tables.specs.Answers.{SizeTest, long, paired, checkedOf, copyVerdict}
+use Rattle.tables.proofs.WordLaw.{front-of}
 
 -- refusal 1
 pub size-refused : (n m : ℕ) → ((v : Verdict) → sized n m v ≡ Refused Size) → SizeTest n m false
@@ -81,3 +83,46 @@ module _ (n m : ℕ) (from to : List ℕ) (sizes : (v : Verdict) → sized n m v
 
       pub copy-done : (f : ℕ) → f ≡ legalFront m from → k ≤ f → copyVerdict n m from to ≡ Done
       copy-done f e h = lengths ∙ pair-passed n m from Done (omega arith)
+
+-- ---- what is known where nothing is refused
+done-not : {r : Refusal} → Refused r ≡ Done → ⊥
+done-not e = let z : _≡_ {A = ℕ} 0 1 = cc in omega arith
+
+pub refuse-done : (b : Bool) (r : Refusal) (v : Verdict) → refuse b r v ≡ Done → (b ≡ false) × (v ≡ Done)
+refuse-done true r v e = absurd (done-not e)
+refuse-done false r v e = (refl, e)
+
+pub sized-done : (n m : ℕ) (v : Verdict) → sized n m v ≡ Done → (1 ≤ n) × (n ≤ 20) × (1 ≤ m) × (m ≤ 64) × (v ≡ Done)
+sized-done n m v e =
+    let a = refuse-done (ltb n 1) Size _ e in
+    let b = refuse-done (ltb 20 n) Size _ (a .1) in
+    let c = refuse-done (ltb m 1) Size _ (b .1) in
+    let d = refuse-done (ltb 64 m) Size v (c .1) in
+    (ltb-false n 1 (a .0), ltb-false 20 n (b .0), ltb-false m 1 (c .0), ltb-false 64 m (d .0), d .1)
+
+pub long-done : (n : ℕ) (t : List ℕ) (v : Verdict) → long n t v ≡ Done → (length t ≡ 2 * countOf n) × (v ≡ Done)
+long-done n t v e =
+    let a = refuse-done (not (eqb (length t) (2 * countOf n))) Length v e in
+    (eqb-true (length t) (2 * countOf n) (not-false _ (a .0)), a .1)
+
+pub paired-done : (n m : ℕ) (t : List ℕ) (v : Verdict) → length t ≡ 2 * countOf n → paired n m t v ≡ Done → Table n m t × (v ≡ Done)
+paired-done n m t v l e =
+    let a = refuse-done (ltb (legalFront m t) (countOf n)) Pair v e in
+    let b = ltb-false (legalFront m t) (countOf n) (a .0) in
+    let f = front-of m (countOf n) t l in
+    (record { size = l; legal = λ k h. f .below k (omega arith) }, a .1)
+
+-- a copy that is not refused: its sizes, a legal table read, and room for the other
+pub record Ready (n m : ℕ) (from to : List ℕ) : Type 0 where
+  pub least : 1 ≤ n
+  pub most : n ≤ 20
+  pub table : Table n m from
+  pub room : length to ≡ 2 * countOf n
+
+pub copy-ready : (n m : ℕ) (from to : List ℕ) → copyVerdict n m from to ≡ Done → Ready n m from to
+copy-ready n m from to e =
+    let a = sized-done n m (long n from (long n to (paired n m from Done))) e in
+    let b = long-done n from (long n to (paired n m from Done)) (a .4) in
+    let c = long-done n to (paired n m from Done) (b .1) in
+    let d = paired-done n m from Done (b .0) (c .1) in
+    record { least = a .0; most = a .1; table = d .0; room = c .0 }

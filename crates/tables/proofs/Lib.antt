@@ -5,3 +5,6 @@ pub mod AgreeLaw
 pub mod RoundLaw
 pub mod EntryLaw
 pub mod AnswerLaw
+pub mod VectorLaw
+pub mod WriteLaw
+pub mod TurnLaw

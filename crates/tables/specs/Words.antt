@@ -7,7 +7,7 @@ use lib.IntN.{ℤ, pos}
 use lib.ListN.{length, getD, set}
 use Rattle.residues.specs.Residue.{floorMod}
 use Rattle.trits.specs.declared.Vector.{Vector}
-use Rattle.trits.specs.Trit.{trit, Legal, ofTrits}
+use Rattle.trits.specs.Trit.{trit, Legal, ofTrits, none}
 use Rattle.trits.specs.Words.{isLegal}
 use Rattle.gray.specs.Numbers.{digit}
 use Rattle.polynomials.specs.Poly.{Poly, valueOf, tableOf, backOf}
@@ -26,6 +26,27 @@ pub record Written (g : List ℕ) (a b : ℕ) (old new : List ℕ) : Type 0 wher
   pub size : length new ≡ length old
   pub here : (k : ℕ) → a ≤ k → k < b → entry new k ≡ entry g k
   pub kept : (k : ℕ) → (a ≤ k → k < b → ⊥) → entry new k ≡ entry old k
+
+-- the constant, the unknowns before i and their products stand in t as they do in g
+pub record Filled (g : List ℕ) (n i : ℕ) (t : List ℕ) : Type 0 where
+  pub singles : (k : ℕ) → k < 1 + i → entry t k ≡ entry g k
+  pub products : (k : ℕ) → 1 + n ≤ k → k < indexOf n i i → entry t k ≡ entry g k
+
+-- the entry of the unknown before i and i, of which there is none at i = 0
+unfoldable pub beforeOf : ℕ → List ℕ → ℕ → Vector
+beforeOf n c zero = none
+beforeOf n c (suc i) = entry c (indexOf n i (suc i))
+
+-- the later products of unknown i stand in g as they do in t, with f e more in equation e
+abbrev pub Products : ℕ → ℕ → ℕ → List ℕ → (ℕ → ℕ) → List ℕ → Type 0
+Products n m i t f g = (j : ℕ) → i < j → j < n → entry g (indexOf n i j) ≡ ofTrits m (λ e. trit (entry t (indexOf n i j)) e + f e)
+
+-- what stands in g for unknown i: the differences of the coefficients t, and as well the coefficients of the differences t.
+-- p is the coefficient of the unknown before i and i; modulo 3 half is 2, so both directions are the same formulas.
+pub record Turned (n m i : ℕ) (t : List ℕ) (p : Vector) (g : List ℕ) : Type 0 where
+  pub single : entry g (1 + i) ≡ ofTrits m (λ e. trit (entry t (1 + i)) e + trit (entry t (indexOf n i i)) e + 2 * trit p e)
+  pub square : entry g (indexOf n i i) ≡ ofTrits m (λ e. 2 * (trit (entry t (indexOf n i i)) e + trit p e))
+  pub products : Products n m i t (λ e. trit p e + 2 * trit (entry t (indexOf n i i)) e) g
 
 -- the words of the k vectors g 0, g 1, ..
 unfoldable pub tabled : ℕ → (ℕ → Vector) → List ℕ

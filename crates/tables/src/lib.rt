@@ -4,9 +4,12 @@ use refusals::Refusal;
 use trits::Vector;
 
 mod checks;
+mod formulas;
 mod monomials;
 
 pub use checks::check;
+pub use formulas::coefficients;
+pub use formulas::differences;
 pub use monomials::entry;
 pub use monomials::vector;
 
