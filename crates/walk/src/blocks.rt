@@ -63,7 +63,6 @@ fn block27(
     requires { ⌜ (0 < x .place) × (x .place % 27 ≡ 0) × (x .place + 27 ≤ 3 ^ n) × (b ≡ lowestOf 3 (x .place)) × (x .place ≡ 3 ^ b * rest) × (0 < rest) ⌝ }
     requires { ⌜ (x .found + 27 ≤ length (now list)) × (x .additions + 54 < 2 ^ 64) ⌝ }
     ensures state { λ r. ⌜ ((rest : List Vector) → getD rest (b - 3) none ≡ slot → b - 3 < length rest → whole (r .part) (set rest (b - 3) (r .slot)) (now (list .exit)) ≡ iterate 3 (walkOf n (product (now (table .entry)) n)) 27 (whole x rest (now (list .entry)))) ⌝ }
-    ensures went { λ r. ⌜ Went x (r .part) 27 54 ⌝ }
 {
     let place = x.place;
     let value = x.value;

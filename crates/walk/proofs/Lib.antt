@@ -1,0 +1,3 @@
+pub mod MoveLaw
+pub mod PartLaw
+pub mod SearchLaw
