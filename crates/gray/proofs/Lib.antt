@@ -3,3 +3,6 @@ pub mod PositionLaw
 pub mod GrayLaw
 pub mod LatestLaw
 pub mod PartLaw
+pub mod DigitLaw
+pub mod MapLaw
+pub mod TurnLaw
