@@ -80,3 +80,7 @@ second p b r e h = (
 
 pub alone : (p b : ℕ) → p ≡ 3 ^ b * 1 → p - 3 ^ b ≡ 0
 alone p b e = omega arith
+
+-- what is left of a number above 0 is above 0, and the other way
+pub above : (p b r : ℕ) → p ≡ 3 ^ b * r → 0 < r → 0 < p
+above p b r e h = omega (arith, mul-le-mul-left (3 ^ b) h, one-le-pow b 3 (omega arith))

@@ -1,4 +1,5 @@
 // One addition, one move, and what is noted of a value.
+use gray::Place;
 use trits::Vector;
 ghost use mathlib.Core.Path.{_≡_};
 ghost use mathlib.Core.Bool.{true};
@@ -37,27 +38,6 @@ pub fn plus(a: Vector, b: Vector, additions: u64) -> Sum
     }
 }
 
-// The point at a place, for n unknowns.
-fn point_at(n: usize, place: u64) -> u64
-    requires { ⌜ n ≤ 20 ⌝ }
-    ensures { λ r. ⌜ r ≡ pointOf 3 n place ⌝ }
-{
-    let mut point: u64 = 0;
-    let mut unit: u64 = 1;
-    let mut rest = place;
-    let mut i: usize = 0;
-    while i < n {
-        let low = rest % 3;
-        rest = rest / 3;
-        let next = rest % 3;
-        let digit = (low + 3 - next) % 3;
-        point = point + unit * digit;
-        unit = unit * 3;
-        i += 1;
-    }
-    point
-}
-
 // How many are found after a value at a place; the point of a zero is written at the first free entry of list.
 pub fn mark(n: usize, value: Vector, place: u64, found: usize, list: &mut [u64]) -> usize
     requires { ⌜ (n ≤ 20) × (found < length (now list)) ⌝ }
@@ -66,8 +46,8 @@ pub fn mark(n: usize, value: Vector, place: u64, found: usize, list: &mut [u64])
     ensures bound { λ r. ⌜ (found ≤ r) × (r ≤ found + 1) ⌝ }
 {
     if trits::is_zero(value) {
-        let point = point_at(n, place);
-        list[found] = point;
+        let point = gray::point_at(n as u64, Place(place));
+        list[found] = point.0;
         found + 1
     } else {
         found

@@ -1,3 +1,9 @@
+-- `walk::blocks::closed` meets its contract.
+use mathlib.Core.Path.{_≡_}
+use Prim.Native.Nat.{ℕ, _≤_}
+use native.Mathlib.Omega.{arith}
+use lib.ListN.{length, length-map}
+use Rattle.walk.proofs.PartLaw.{together}
 use borrow.Author.Needs.{needs}
 use Rattle.walk.proofs.blocks.closed.Statement.{statement}
 use Rattle.walk.proofs.blocks.closed.Tie as tie
@@ -18,7 +24,11 @@ array-set-from-slots-3 c = search needs
 
 -- src/blocks.rt:131:1
 returns : tie.Need-returns
-returns c = ?
+returns c =
+    let s = c .before .before .before .before in
+    let a = s .args in
+    let k : length (a .slots) ≡ 20 = simp length-map at (s .good .1 .0 .1 .0 .1) in
+    λ l. together (a .x) (a .slots) l (omega arith)
 
 pub closed-spec : {M : Type 1} → statement M
 closed-spec =

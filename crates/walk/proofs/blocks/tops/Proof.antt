@@ -1,3 +1,4 @@
+-- `walk::blocks::tops` meets its contract.
 use borrow.Author.Needs.{needs}
 use Rattle.walk.proofs.blocks.tops.Statement.{statement}
 use Rattle.walk.proofs.blocks.tops.Tie as tie
@@ -31,7 +32,8 @@ entry-requires-6 c κs = search needs
 
 -- src/blocks.rt:29:1
 returns : tie.Need-returns
-returns c = ?
+returns c =
+    rw (c .entry6 .ensures, c .before .entry5 .ensures, c .before .before .entry4 .ensures, c .before .before .before .entry3 .ensures, c .before .before .before .before .entry2 .ensures, c .before .before .before .before .before .entry .ensures)
 
 pub tops-spec : {M : Type 1} → statement M
 tops-spec =

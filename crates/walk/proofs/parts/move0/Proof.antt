@@ -1,3 +1,6 @@
+-- `walk::parts::move0` meets its contract.
+use native.Mathlib.Omega.{arith}
+use Rattle.walk.specs.Step.{push, lift, bump}
 use borrow.Author.Needs.{needs}
 use Rattle.walk.proofs.parts.move0.Statement.{statement}
 use Rattle.walk.proofs.parts.move0.Tie as tie
@@ -15,7 +18,11 @@ plus-requires-2 c κs = search needs
 
 -- src/parts.rt:49:1
 returns : tie.Need-returns
-returns c = ?
+unfolding bump push lift
+returns c =
+    let p = c .before .before .before .plus .ensures in
+    let q = c .before .plus2 .ensures in
+    ((λ rest l. rw (q .0, q .1, p .0, p .1)), record { place = omega (arith, p .1, q .1); found = omega (arith, p .1, q .1); additions = omega (arith, p .1, q .1) })
 
 pub move0-spec : {M : Type 1} → statement M
 move0-spec = tie.close (tie.spec plus-requires plus-requires-2 returns)
