@@ -1,3 +1,4 @@
 pub mod MoveLaw
 pub mod PartLaw
 pub mod SearchLaw
+pub mod WalkedLaw

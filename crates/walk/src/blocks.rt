@@ -128,13 +128,14 @@ fn opened(r: Ran) -> Part
 }
 
 // The walker again, from the parts and the slots from 3 on.
-fn closed(x: Part, mut slots: [Vector; 20]) -> Ran
-    ensures { λ r. ⌜ ((l : List ℕ) → stateOf r l ≡ whole x (drop 3 slots) l) ⌝ }
+fn closed(x: Part, rest: [Vector; 20]) -> Ran
+    ensures { λ r. ⌜ ((l : List ℕ) → stateOf r l ≡ whole x (drop 3 rest) l) ⌝ }
 {
     let s0 = x.s0;
     let s1 = x.s1;
     let s2 = x.s2;
     let value = x.value;
+    let mut slots = rest;
     slots[0] = s0;
     slots[1] = s1;
     slots[2] = s2;

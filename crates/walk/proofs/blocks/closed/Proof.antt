@@ -2,7 +2,7 @@
 use mathlib.Core.Path.{_≡_}
 use Prim.Native.Nat.{ℕ, _≤_}
 use native.Mathlib.Omega.{arith}
-use lib.ListN.{length, length-map}
+use lib.ListN.{length}
 use Rattle.walk.proofs.PartLaw.{together}
 use borrow.Author.Needs.{needs}
 use Rattle.walk.proofs.blocks.closed.Statement.{statement}
@@ -27,8 +27,8 @@ returns : tie.Need-returns
 returns c =
     let s = c .before .before .before .before in
     let a = s .args in
-    let k : length (a .slots) ≡ 20 = simp length-map at (s .good .1 .0 .1 .0 .1) in
-    λ l. together (a .x) (a .slots) l (omega arith)
+    let k : length (a .rest) ≡ 20 = s .good .1 .0 .1 .0 .1 in
+    λ l. together (a .x) (a .rest) l (omega arith)
 
 pub closed-spec : {M : Type 1} → statement M
 closed-spec =

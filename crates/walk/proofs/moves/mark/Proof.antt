@@ -1,3 +1,8 @@
+-- `walk::moves::mark` meets its contract.
+use mathlib.Core.Path.{_≡_, sym, _∙_}
+use mathlib.Core.Bool.{true, false}
+use native.Mathlib.Omega.{arith}
+use Rattle.trits.specs.Words.{isZero}
 use borrow.Author.Needs.{needs}
 use Rattle.walk.proofs.moves.mark.Statement.{statement}
 use Rattle.walk.proofs.moves.mark.Tie as tie
@@ -32,11 +37,20 @@ same-length c = search needs
 
 -- src/moves.rt:42:1
 returns : tie.Need-returns
-returns c = ?
+returns c =
+    let s = c .before .before .before .before in
+    let e : isZero (s .args .value) ≡ true = sym (c .before .before .is-zero .ensures .word) ∙ c .before .if1 .taken in (
+      rw e,
+      (rw (e, c .point-at .ensures), (omega arith, omega arith)),
+    )
 
 -- src/moves.rt:42:1
 returns-2 : tie.Need-returns-2
-returns-2 c = ?
+returns-2 c =
+    let e : isZero (c .before .before .before .args .value) ≡ false = sym (c .before .is-zero .ensures .word) ∙ c .if1 .left in (
+      rw e,
+      (rw e, (omega arith, omega arith)),
+    )
 
 pub mark-spec : {M : Type 1} → statement M
 mark-spec =

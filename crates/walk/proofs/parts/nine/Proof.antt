@@ -1,3 +1,8 @@
+-- `walk::parts::nine` meets its contract: three threes with two moves of slot 1 between.
+use mathlib.Core.Path.{ap, _∙_}
+use native.Mathlib.Omega.{arith}
+use Rattle.walk.specs.Step.{State, bump}
+use Rattle.walk.specs.Parts.{threeOf, nineOf}
 use borrow.Author.Needs.{needs}
 use Rattle.walk.proofs.parts.nine.Statement.{statement}
 use Rattle.walk.proofs.parts.nine.Tie as tie
@@ -24,7 +29,18 @@ same-length c = search needs
 
 -- src/parts.rt:134:1
 returns : tie.Need-returns
-returns c = ?
+unfolding nineOf
+returns c =
+    let p = c .before .before .step12 .ensures in
+    let q = c .before .before .before .before .before .before .step1 .ensures in
+    let n = c .before .before .before .before .before .before .before .before .before .before .three .ensures in
+    let a = c .before .before .before .before .before .before .before .before .before .before .before .before .before .before .before .before .args in
+    let t = a .top in (
+      (λ rest.
+          p .0 rest ∙ ap (λ (s : State). threeOf (a .n) (t .t01) (t .t00) (bump 1 (t .t11) s))
+          (q .0 rest ∙ ap (λ (s : State). threeOf (a .n) (t .t01) (t .t00) (bump 1 (a .t1h) s)) (n .0 rest))),
+      record { place = omega (arith, p .1, q .1, n .1); found = omega (arith, p .1, q .1, n .1); additions = omega (arith, p .1, q .1, n .1) },
+    )
 
 pub nine-spec : {M : Type 1} → statement M
 nine-spec = tie.close (tie.spec three-requires step1-requires step1-requires-2 same-length returns)

@@ -1,3 +1,6 @@
+-- `walk::parts::note` meets its contract.
+use native.Mathlib.Omega.{arith}
+use Rattle.walk.specs.Step.{noteOf}
 use borrow.Author.Needs.{needs}
 use Rattle.walk.proofs.parts.note.Statement.{statement}
 use Rattle.walk.proofs.parts.note.Tie as tie
@@ -19,7 +22,10 @@ same-length c = search needs
 
 -- src/parts.rt:35:1
 returns : tie.Need-returns
-returns c = ?
+unfolding noteOf
+returns c =
+    let m = c .before .before .mark .ensures in
+    ((λ rest. rw (m .0, m .1 .0)), record { place = omega (arith, m .1 .1); found = omega (arith, m .1 .1); additions = omega (arith, m .1 .1) })
 
 pub note-spec : {M : Type 1} → statement M
 note-spec = tie.close (tie.spec mark-requires add-x same-length returns)

@@ -1,3 +1,8 @@
+-- `walk::parts::three` meets its contract: three notes with two moves between.
+use mathlib.Core.Path.{ap, _∙_}
+use native.Mathlib.Omega.{arith}
+use Rattle.walk.specs.Step.{State, bump, noteOf}
+use Rattle.walk.specs.Parts.{threeOf}
 use borrow.Author.Needs.{needs}
 use Rattle.walk.proofs.parts.three.Statement.{statement}
 use Rattle.walk.proofs.parts.three.Tie as tie
@@ -24,7 +29,17 @@ same-length c = search needs
 
 -- src/parts.rt:113:1
 returns : tie.Need-returns
-returns c = ?
+unfolding threeOf
+returns c =
+    let p = c .before .before .step02 .ensures in
+    let q = c .before .before .before .before .before .before .step0 .ensures in
+    let n = c .before .before .before .before .before .before .before .before .before .before .note .ensures in
+    let a = c .before .before .before .before .before .before .before .before .before .before .before .before .before .args in (
+      (λ rest.
+          p .0 rest ∙ ap (λ (s : State). noteOf (a .n) (bump 0 (a .t00) s))
+          (q .0 rest ∙ ap (λ (s : State). noteOf (a .n) (bump 0 (a .th) s)) (n .0 rest))),
+      record { place = omega (arith, p .1, q .1, n .1); found = omega (arith, p .1, q .1, n .1); additions = omega (arith, p .1, q .1, n .1) },
+    )
 
 pub three-spec : {M : Type 1} → statement M
 three-spec = tie.close (tie.spec note-requires step0-requires step0-requires-2 same-length returns)
