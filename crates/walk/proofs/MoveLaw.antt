@@ -11,10 +11,10 @@ use lib.Seq.{set-getD, getD-set-same}
 use Rattle.trits.specs.declared.Vector.{Vector}
 use Rattle.trits.specs.Trit.{none}
 use Rattle.trits.specs.Words.{addOf, isZero}
-use Rattle.gray.specs.Positions.{lowestOf, positions}
+use Rattle.gray.specs.Positions.{lowestIn, lowestOf, positions}
 use Rattle.gray.specs.Numbers.{pointOf}
 use Rattle.walks.specs.Walk.{Lawful, stepOf}
-use Rattle.gray.proofs.LowestLaw.{of-second}
+use Rattle.gray.proofs.LowestLaw.{of-lt, of-second}
 use Rattle.gray.proofs.PositionLaw.{positions-none, positions-one, positions-two}
 use Rattle.walk.specs.Step.{State, push, lift, bump, moveOf, noteOf, walkOf, foundOf, listOf}
 use Rattle.walk.specs.Parts.{headed}
@@ -84,3 +84,12 @@ alone p b e = omega arith
 -- what is left of a number above 0 is above 0, and the other way
 pub above : (p b r : ℕ) → p ≡ 3 ^ b * r → 0 < r → 0 < p
 above p b r e h = omega (arith, mul-le-mul-left (3 ^ b) h, one-le-pow b 3 (omega arith))
+
+low-none : lowestOf 3 0 ≡ 0
+unfolding lowestOf lowestIn
+low-none = refl
+
+-- the first position of a place is an unknown; that of place 0 counts as 0
+pub first-lt : (n p : ℕ) → 0 < n → p < 3 ^ n → lowestOf 3 p < n
+first-lt n zero h l = rw low-none h
+first-lt n (suc p) h l = of-lt 3 two n (suc p) (omega arith) l

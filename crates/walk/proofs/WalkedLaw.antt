@@ -12,7 +12,9 @@ use borrow.Author.Tests.{eq-eqb, ne-eqb}
 use Rattle.trits.specs.declared.Vector.{Vector}
 use Rattle.walks.specs.Walk.{stepOf, iterate}
 use Rattle.walk.specs.Step.{State, walkOf}
-use Rattle.walk.specs.Run.{product, haltOf, searchOf}
+use Rattle.gray.specs.Positions.{lowestOf}
+use Rattle.walk.specs.Run.{product, haltOf, searchOf, Sized}
+use Rattle.walk.proofs.MoveLaw.{end-small, first-lt}
 use Rattle.walk.proofs.SearchLaw.{iterate-near, leap, ended, full, spent}
 
 -- a state from what the code holds of it
@@ -68,3 +70,41 @@ module _ (t : List ℕ) (n e : ℕ) where
       (λ a. by-cases (ℕ-discrete (s .place) e) (λ b. ended n (product t n) e k s b)
       (λ b. by-cases (ℕ-discrete (s .found) (length (s .list))) (λ d. full n (product t n) e k s d)
       (λ d. absurd (true≢false (rw (ne-eqb _ _ a, ne-eqb _ _ b, ne-eqb _ _ d) at h)))))
+
+  -- what a turn of that loop may count on
+  pub record Goes (k : ℕ) (s : State) : Type 0 where
+    pub left : 0 < k
+    pub place : s .place < e
+    pub found : s .found < length (s .list)
+    pub low : lowestOf 3 (s .place) < n
+    pub count : s .additions + 2 < 2 ^ 64
+    pub end : e ≤ 3486784401
+
+  pub goes-on : (budget left k : ℕ) (s₀ s : State) (b : Bool) → Sized t n e → Walked t n e budget left s₀ s → k ≡ length (s₀ .list)
+      → b ≡ (not (eqb left 0) && not (eqb (s .place) e) && not (eqb (s .found) k)) → b ≡ true → Goes left s
+  goes-on budget left k s₀ s b z w h g i =
+      let f : length (s .list) ≡ k = w .list ∙ sym h in
+      let y = going-true left s (ap (λ (x : ℕ). not (eqb left 0) && not (eqb (s .place) e) && not (eqb (s .found) x)) f ∙ sym g ∙ i) in
+      let u = end-small n (z .small) in
+      let p : s .place < e = omega (arith, y, w .place) in
+      record {
+        left = y .0;
+        place = p;
+        found = omega (arith, y, w .found);
+        low = first-lt n (s .place) (z .some) (omega (arith, z .end));
+        count = omega (arith, w .additions, z .end);
+        end = omega (arith, z .end);
+      }
+
+  -- the end of that loop
+  pub goes-no-more : (budget left k : ℕ) (s₀ s : State) (b : Bool) → Walked t n e budget left s₀ s → k ≡ length (s₀ .list)
+      → b ≡ (not (eqb left 0) && not (eqb (s .place) e) && not (eqb (s .found) k)) → b ≡ false → s ≡ searchOf t n e budget s₀
+  goes-no-more budget left k s₀ s b w h g i =
+      let f : length (s .list) ≡ k = w .list ∙ sym h in
+      sym (going-false left s (ap (λ (x : ℕ). not (eqb left 0) && not (eqb (s .place) e) && not (eqb (s .found) x)) f ∙ sym g ∙ i)) ∙ w .state
+
+  -- one place more
+  pub walked-one : (budget left : ℕ) (s₀ s r : State) → Walked t n e budget left s₀ s → Goes left s
+      → r ≡ stepOf 3 (walkOf n (product t n)) s → Walked t n e budget (left - 1) s₀ r
+  unfolding iterate
+  walked-one budget left s₀ s r w g i = walked-more 1 budget left s₀ s r w (omega (arith, g .left)) (omega (arith, g .place)) (omega (arith, g .found)) i

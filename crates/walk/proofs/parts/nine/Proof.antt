@@ -21,7 +21,11 @@ step1-requires c κs = search needs
 
 -- src/parts.rt:144:5
 step1-requires-2 : tie.Need-step1-requires-2
-step1-requires-2 c κs = ?
+step1-requires-2 c κs =
+    let q = c .before .before .before .step1 in
+    let t = c .before .before .before .before .before .before .before .three in
+    let s = c .before .before .before .before .before .before .before .before .before .before .before .before .before in
+    (s .pre .0, omega (arith, q .ensures .1, q .kept, t .ensures .1, t .kept, s .pre), omega (arith, q .ensures .1, t .ensures .1, s .pre), omega (arith, q .ensures .1, t .ensures .1, s .pre))
 
 -- src/parts.rt:134:1
 same-length : tie.Need-same-length
