@@ -2,3 +2,4 @@ pub mod MoveLaw
 pub mod PartLaw
 pub mod SearchLaw
 pub mod WalkedLaw
+pub mod BlocksLaw

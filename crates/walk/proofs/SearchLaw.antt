@@ -134,3 +134,14 @@ module _ (n : ℕ) (T : ℕ → ℕ → Vector) where
           let p = run-place e j (stepOf 3 (walkOf n T) s) in
           rw (run-go 3 (walkOf n T) (haltOf e) j s b, run-go 3 (walkOf n T) (haltOf e) k s b)
           (ap (λ (x : ℕ). runOf 3 (walkOf n T) (haltOf e) x (runOf 3 (walkOf n T) (haltOf e) j (stepOf 3 (walkOf n T) s))) (omega (arith, w .place, p)) ∙ ih)
+
+  -- places one by one to a, blocks to b, places one by one to r: a search
+  pub joined : (e budget first : ℕ) (s a b r : State) → first ≤ budget → s .place ≤ a .place → a .place ≤ b .place
+      → a ≡ runOf 3 (walkOf n T) (haltOf e) first s
+      → runOf 3 (walkOf n T) (haltOf e) (budget - (a .place - s .place) - (b .place - a .place)) b ≡ runOf 3 (walkOf n T) (haltOf e) (budget - (a .place - s .place)) a
+      → r ≡ runOf 3 (walkOf n T) (haltOf e) (budget - (b .place - s .place)) b
+      → r ≡ runOf 3 (walkOf n T) (haltOf e) budget s
+  joined e budget first s a b r h i j p q o =
+      let k : budget - (b .place - s .place) ≡ budget - (a .place - s .place) - (b .place - a .place) = omega arith in
+      o ∙ ap (λ (x : ℕ). runOf 3 (walkOf n T) (haltOf e) x b) k ∙ q
+      ∙ ap (λ (x : State). runOf 3 (walkOf n T) (haltOf e) (budget - (x .place - s .place)) x) p ∙ resume e first budget s h

@@ -60,7 +60,7 @@ fn block27(
 ) -> Turned
     requires { ⌜ Sized (now table) n (3 ^ n) ⌝ }
     requires { ⌜ top ≡ topOf (product (now table) n) ⌝ }
-    requires { ⌜ (0 < x .place) × (x .place % 27 ≡ 0) × (x .place + 27 ≤ 3 ^ n) × (b ≡ lowestOf 3 (x .place)) × (x .place ≡ 3 ^ b * rest) × (0 < rest) ⌝ }
+    requires { ⌜ (0 < x .place) × (x .place % 27 ≡ 0) × (x .place + 27 ≤ 3 ^ n) × (b ≡ lowestOf 3 (x .place)) × (x .place ≡ 3 ^ b * rest) ⌝ }
     requires { ⌜ (x .found + 27 ≤ length (now list)) × (x .additions + 54 < 2 ^ 64) ⌝ }
     ensures state { λ r. ⌜ ((rest : List Vector) → getD rest (b - 3) none ≡ slot → b - 3 < length rest → whole (r .part) (set rest (b - 3) (r .slot)) (now (list .exit)) ≡ iterate 3 (walkOf n (product (now (table .entry)) n)) 27 (whole x rest (now (list .entry)))) ⌝ }
 {
