@@ -6,3 +6,8 @@ pub mod PartLaw
 pub mod DigitLaw
 pub mod MapLaw
 pub mod TurnLaw
+pub mod AnswerLaw
+pub mod SignLaw
+pub mod BalancedLaw
+pub mod PowerLaw
+pub mod Cases

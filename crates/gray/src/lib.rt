@@ -2,13 +2,21 @@
 // Contracts cite specs/Positions and Parts (positions), Numbers (digits and the map), Balanced, and Answers (refusals).
 use refusals::Refusal;
 
-mod positions;
-mod map;
 mod balanced;
+mod map;
+mod positions;
 
-pub use positions::{first_position, split, power, position, Parts, PositionAnswer};
-pub use map::{point_at, point_of, place_of};
-pub use balanced::{to_balanced, from_balanced};
+pub use balanced::from_balanced;
+pub use balanced::to_balanced;
+pub use map::place_of;
+pub use map::point_at;
+pub use map::point_of;
+pub use positions::Parts;
+pub use positions::PositionAnswer;
+pub use positions::first_position;
+pub use positions::position;
+pub use positions::power;
+pub use positions::split;
 
 // A position in the walk, counted from 0.
 pub struct Place(pub u64);

@@ -46,7 +46,7 @@ div-number c =
 
 -- src/balanced.rt:21:32
 add-number : tie.Need-add-number Inv-loop μ-loop
-add-number c =     omega arith
+add-number c = omega arith
 
 -- src/balanced.rt:21:18
 add-number-2 : tie.Need-add-number-2 Inv-loop μ-loop
@@ -70,9 +70,13 @@ loop-again c =
     let l = c .before .loop in
     let a = c .before .before .before .args in
     let b : l .i < a .n = omega arith in
-    let e : a .x / (l .weight / 3) / 3 ≡ a .x / l .weight = part-next (a .n) (l .i) (l .weight) (a .x) b (l .inv .3) in
-    (l .inv .0, l .inv .1, omega arith, weight-next (a .n) (l .i) (l .weight) b (l .inv .3),
-      turned-turn (a .a) (l .i) (a .x / (l .weight / 3)) (l .number) (l .inv .4 ∙ ap (turned (a .a) (l .i)) (sym e)))
+    let e : a .x / (l .weight / 3) / 3 ≡ a .x / l .weight = part-next (a .n) (l .i) (l .weight) (a .x) b (l .inv .3) in (
+      l .inv .0,
+      l .inv .1,
+      omega arith,
+      weight-next (a .n) (l .i) (l .weight) b (l .inv .3),
+      turned-turn (a .a) (l .i) (a .x / (l .weight / 3)) (l .number) (l .inv .4 ∙ ap (turned (a .a) (l .i)) (sym e)),
+    )
 
 -- src/balanced.rt:12:1
 returns : tie.Need-returns Inv-loop μ-loop

@@ -72,9 +72,12 @@ loop-again c =
     let n = c .before .before .before .args .n in
     let x = c .before .before .before .args .x .0 in
     let b : l .i < n = omega arith in
-    let e : x / (l .weight / 3) / 3 ≡ x / l .weight = part-next n (l .i) (l .weight) x b (l .inv .2) in
-    (l .inv .0, omega arith, weight-next n (l .i) (l .weight) b (l .inv .2),
-      place-turn (l .i) (x / (l .weight / 3)) (l .place) (l .inv .3 ∙ ap (placeOf 3 (l .i)) (sym e)))
+    let e : x / (l .weight / 3) / 3 ≡ x / l .weight = part-next n (l .i) (l .weight) x b (l .inv .2) in (
+      l .inv .0,
+      omega arith,
+      weight-next n (l .i) (l .weight) b (l .inv .2),
+      place-turn (l .i) (x / (l .weight / 3)) (l .place) (l .inv .3 ∙ ap (placeOf 3 (l .i)) (sym e)),
+    )
 
 -- src/map.rt:31:1
 returns : tie.Need-returns Inv-loop μ-loop

@@ -73,9 +73,13 @@ loop-again c =
     let n = c .before .before .args .n in
     let b : l .i < n = omega arith in
     let d : (l .rest % 3 + 3 - l .rest / 3 % 3) % 3 < 3 = omega arith in
-    let w : l .weight * 3 ≡ 3 ^ (l .i + 1) = ap (λ (k : ℕ). k * 3) (l .inv .2) ∙ sym (pow-suc 3 (l .i)) ∙ ap (λ (k : ℕ). 3 ^ k) (sym (add-one (l .i))) in
-    (l .inv .0, omega arith, w, digit-small (l .point) (l .weight) ((l .rest % 3 + 3 - l .rest / 3 % 3) % 3) (l .inv .3) d,
-      sym (point-turn (l .point) (l .weight) n (l .i) (l .rest) b) ∙ l .inv .4)
+    let w : l .weight * 3 ≡ 3 ^ (l .i + 1) = ap (λ (k : ℕ). k * 3) (l .inv .2) ∙ sym (pow-suc 3 (l .i)) ∙ ap (λ (k : ℕ). 3 ^ k) (sym (add-one (l .i))) in (
+      l .inv .0,
+      omega arith,
+      w,
+      digit-small (l .point) (l .weight) ((l .rest % 3 + 3 - l .rest / 3 % 3) % 3) (l .inv .3) d,
+      sym (point-turn (l .point) (l .weight) n (l .i) (l .rest) b) ∙ l .inv .4,
+    )
 
 -- src/map.rt:11:1
 returns : tie.Need-returns Inv-loop μ-loop
