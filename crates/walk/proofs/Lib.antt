@@ -3,3 +3,4 @@ pub mod PartLaw
 pub mod SearchLaw
 pub mod WalkedLaw
 pub mod BlocksLaw
+pub mod MeanLaw

@@ -1,16 +1,16 @@
 -- What a state says of the system behind the table, and which trail of calls the search follows.
 use mathlib.Core.Path.{_≡_}
 use mathlib.Core.Bool.{Bool, true, _&&_}
-use mathlib.Core.List.{List}
-use Prim.Native.Nat.{ℕ, zero, suc, _-_, _%_, _<_, _≤_, min}
+use mathlib.Core.List.{List, _++_}
+use Prim.Native.Nat.{ℕ, zero, suc, _+_, _-_, _%_, _<_, _≤_, min}
 use lib.Dec.{eqb}
-use lib.ListN.{length, getD}
+use lib.ListN.{length, getD, take, drop}
 use Rattle.trits.specs.declared.Vector.{Vector}
 use Rattle.trits.specs.Trit.{trit, Legal, none}
 use Rattle.gray.specs.Positions.{positions, latest}
 use Rattle.gray.specs.Numbers.{pointDigit, pointOf}
 use Rattle.polynomials.specs.Poly.{Poly, valueOf, eval, diff, tableOf}
-use Rattle.walks.specs.Calls.{Trail}
+use Rattle.walks.specs.Calls.{Trail, zerosIn, costIn}
 use Rattle.walk.specs.Step.{State}
 
 -- every vector of a state is legal
@@ -25,6 +25,12 @@ pub record Sees (f : Poly) (n e p : ℕ) (s : State) : Type 0 where
   pub room : n ≤ length (s .slots)
   pub value : trit (s .value) e ≡ eval f n (pointDigit 3 (p - 1)) % 3
   pub slots : (b : ℕ) → b < n → trit (getD (s .slots) b none) e ≡ diff f n b (pointDigit 3 (latest 3 b (p - 1) - 1)) % 3
+
+-- the state stands before place p of the walk of the m equations F: every vector is legal, and every equation is seen
+pub record Stands (F : ℕ → Poly) (n m p : ℕ) (s : State) : Type 0 where
+  pub place : s .place ≡ p
+  pub good : Good m s
+  pub sees : (e : ℕ) → e < m → Sees (F e) n e p s
 
 -- T holds, legally, the differences of the products of the system of the m equations F
 pub record Tabled (F : ℕ → Poly) (n m : ℕ) (T : ℕ → ℕ → Vector) : Type 0 where
@@ -46,3 +52,14 @@ trailOf F n m e =
       entry = pointOf 3 n;
       cost = λ p. min 2 (length (positions 3 p));
     }
+
+-- z written into l from entry k on
+abbrev pub filled : ℕ → List ℕ → List ℕ → List ℕ
+filled k l z = take k l ++ (z ++ drop (k + length z) l)
+
+-- r is s after k places of a trail from p on: what they cost is added, their zeros are counted, and are listed after those that were there
+pub record Called (T : Trail) (p k : ℕ) (s r : State) : Type 0 where
+  pub place : r .place ≡ p + k
+  pub additions : r .additions ≡ s .additions + costIn T p k
+  pub found : r .found ≡ s .found + length (zerosIn T p k)
+  pub list : r .list ≡ filled (s .found) (s .list) (zerosIn T p k)
