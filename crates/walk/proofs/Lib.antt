@@ -4,3 +4,5 @@ pub mod SearchLaw
 pub mod WalkedLaw
 pub mod BlocksLaw
 pub mod MeanLaw
+pub mod ListLaw
+pub mod CallLaw
