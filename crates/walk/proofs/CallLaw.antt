@@ -24,7 +24,7 @@ use Rattle.walks.specs.Calls.{Trail, listed, zerosIn, costIn, roomAfter, points
 use Rattle.walks.proofs.RunLaw.{run-none, run-halt, run-go}
 use Rattle.walk.specs.Step.{State, push, lift, bump, moveOf, noteOf, walkOf, foundOf, listOf}
 use Rattle.walk.specs.Run.{haltOf}
-use Rattle.walk.specs.Meaning.{Stands, Tabled, zeros, trailOf, filled, Called}
+use Rattle.walk.specs.Meaning.{Stands, Tabled, zeros, trailOf, filled, Called, Answers}
 use Rattle.walk.proofs.SearchLaw.{step-near}
 use Rattle.walk.proofs.MeanLaw.{step-stands}
 use Rattle.walk.proofs.ListLaw.{filled-none, note-fills, note-counts}
@@ -197,3 +197,30 @@ module _ (F : ℕ → Poly) (n m e : ℕ) (T : ℕ → ℕ → Vector) (table : 
           let w = step-near n T s in
           rw (run-go 3 (walkOf n T) (haltOf e) b s (halts p s (h .place) f ∙ a))
           (search-more b p s _ x (omega (arith, o)) a h (ih x (step-stands F n m T table p s (omega arith) h) (omega (arith, w .found, w .list, o))))
+
+  -- a state that begins, with nothing added and nothing found
+  answers : (b p : ℕ) (s r : State) → s .found ≡ 0 → s .additions ≡ 0 → Called Q p (pointsIn Q b (length (s .list)) p) s r → Answers Q b p (s .list) r
+  unfolding reportOf listAfter
+  answers b p s r f a c =
+      let z = zerosIn Q p (pointsIn Q b (length (s .list)) p) in
+      let g : r .found ≡ length z = omega (arith, c .found) in
+      record {
+        place = c .place;
+        additions = omega (arith, c .additions);
+        found = g;
+        stop = ap (λ (x : ℕ). stopAt Q (length (s .list)) x (r .place)) g ∙ ap (λ (x : ℕ). stopAt Q (length (s .list)) (length z) x) (c .place);
+        list = c .list ∙ ap (λ (x : ℕ). filled x (s .list) z) f ∙ ap (λ (x : ℕ). z ++ drop x (s .list)) (none (length z));
+      }
+    where
+      none : (x : ℕ) → 0 + x ≡ x
+      none x = omega arith
+
+  pub call-is : (b p : ℕ) (s : State) → p ≤ e → Stands F n m p s → s .found ≡ 0 → s .additions ≡ 0
+      → Answers Q b p (s .list) (runOf 3 (walkOf n T) (haltOf e) b s)
+      × Stands F n m ((runOf 3 (walkOf n T) (haltOf e) b s) .place) (runOf 3 (walkOf n T) (haltOf e) b s)
+  call-is b p s l h f a =
+      let c = search-is b p s l h (omega arith) in
+      let i : length (s .list) - s .found ≡ length (s .list) = omega arith in (
+        answers b p s _ f a (rw i at (c .called)),
+        rw (c .called .place) (c .stands),
+      )

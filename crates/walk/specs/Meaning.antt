@@ -10,7 +10,8 @@ use Rattle.trits.specs.Trit.{trit, Legal, none}
 use Rattle.gray.specs.Positions.{positions, latest}
 use Rattle.gray.specs.Numbers.{pointDigit, pointOf}
 use Rattle.polynomials.specs.Poly.{Poly, valueOf, eval, diff, tableOf}
-use Rattle.walks.specs.Calls.{Trail, zerosIn, costIn}
+use Rattle.walks.specs.declared.Report.{Report}
+use Rattle.walks.specs.Calls.{Trail, zerosIn, costIn, reportOf, stopAt, listAfter}
 use Rattle.walk.specs.Step.{State}
 
 -- every vector of a state is legal
@@ -63,3 +64,11 @@ pub record Called (T : Trail) (p k : ℕ) (s r : State) : Type 0 where
   pub additions : r .additions ≡ s .additions + costIn T p k
   pub found : r .found ≡ s .found + length (zerosIn T p k)
   pub list : r .list ≡ filled (s .found) (s .list) (zerosIn T p k)
+
+-- r is what a call on a trail leaves, from place p with the budget b and the list l: the report's counts and stop, and the list after
+pub record Answers (T : Trail) (b p : ℕ) (l : List ℕ) (r : State) : Type 0 where
+  pub place : r .place ≡ p + (reportOf T b (length l) p) .points
+  pub additions : r .additions ≡ (reportOf T b (length l) p) .additions
+  pub found : r .found ≡ (reportOf T b (length l) p) .found
+  pub stop : stopAt T (length l) (r .found) (r .place) ≡ (reportOf T b (length l) p) .stop
+  pub list : r .list ≡ listAfter T b p l
