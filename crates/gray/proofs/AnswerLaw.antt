@@ -1,11 +1,10 @@
 -- Each verdict from the tests that the code makes, and the answer that goes with it.
 use mathlib.Core.Path.{_≡_, refl, sym, ap, ap₂, _∙_, subst}
-use mathlib.Core.Bool.{Bool, true, false}
-use Prim.Native.Nat.{ℕ, _+_, _^_, _<_, _≤_}
+use mathlib.Core.Bool.{true, false}
+use Prim.Native.Nat.{ℕ, _^_, _<_, _≤_}
 use mathlib.Core.Logic.{by-cases}
 use native.Mathlib.Decide.{decLt}
 use native.Mathlib.Omega.{arith}
-use lib.Dec.{ltb, leb}
 use lib.IntN.{ℤ, pos, negℤ}
 use lib.Signed.{ltZ}
 use borrow.Author.Tests.{lt-ltb, le-ltb, le-leb, lt-leb}
@@ -13,13 +12,7 @@ use Rattle.refusals.specs.declared.Refusal.{Refusal}
 use Rattle.refusals.specs.declared.Refusal.the-variants.{Size, Range}
 use Rattle.refusals.specs.declared.Verdict.{Verdict}
 use Rattle.refusals.specs.declared.Verdict.the-variants as verdict
-use Rattle.refusals.specs.Refusal.{numberOf, refuse, sizedUnknowns}
-use Rattle.gray.specs.declared.PointAnswer.{PointAnswer}
-use Rattle.gray.specs.declared.PointAnswer.the-variants as point
-use Rattle.gray.specs.declared.PlaceAnswer.{PlaceAnswer}
-use Rattle.gray.specs.declared.PlaceAnswer.the-variants as place
-use Rattle.gray.specs.declared.BalancedAnswer.{BalancedAnswer}
-use Rattle.gray.specs.declared.BalancedAnswer.the-variants as balanced
+use Rattle.refusals.specs.Refusal.{sizedUnknowns}
 use Rattle.gray.specs.Balanced.{halfOf}
 use Rattle.gray.specs.Answers.{convertVerdict, balancedVerdict, pointFrom, placeFrom, balancedFrom, told, pointTold, placeTold, balancedTold}
 

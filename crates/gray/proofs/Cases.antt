@@ -2,7 +2,7 @@
 use mathlib.Core.Path.{_≡_, refl}
 use mathlib.Core.List.{List, [], _∷_}
 use Prim.Native.Nat.{ℕ}
-use lib.IntN.{ℤ, pos, negsuc}
+use lib.IntN.{pos, negsuc}
 use Rattle.residues.specs.Sums.{sum}
 use Rattle.gray.specs.Positions.{lowestIn, lowestOf, positionsIn, positions}
 use Rattle.gray.specs.Numbers.{digit, number, pointDigit, pointOf, placeDigit, placeOf}

@@ -1,6 +1,6 @@
 -- One turn of each loop over digits: the weights, and the number so far from that of one digit less.
 use mathlib.Core.Path.{_≡_, refl, sym, ap, ap₂, _∙_}
-use Prim.Native.Nat.{ℕ, zero, suc, _+_, _-_, _*_, _/_, _%_, _^_, _<_, _≤_}
+use Prim.Native.Nat.{ℕ, suc, _+_, _-_, _*_, _/_, _%_, _^_, _<_, _≤_}
 use native.Mathlib.Nat.{mod-lt, div-one, pow-zero, pow-suc, mul-div-left, div-div-eq-div-mul, mod-add-mod, pow-le-pow-right, one-le-pow, mul-le-mul-left}
 use native.Mathlib.Numerals.{add-one}
 use native.Mathlib.Omega.{arith}

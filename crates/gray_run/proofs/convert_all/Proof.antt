@@ -1,13 +1,8 @@
 -- `gray_run::convert_all` is safe and ends.
-use Prim.Native.Nat.{ℕ, _+_, _-_, _*_, _/_, _%_, _^_, _≤_, _<_}
-use native.Mathlib.Omega.{arith}
+use Prim.Native.Nat.{_-_, _≤_}
 use borrow.Author.Needs.{needs}
 use Rattle.gray_run.proofs.convert_all.Statement.{statement}
 use Rattle.gray_run.proofs.convert_all.Tie as tie
-use Rattle.gray_run.proofs.convert_all.Reads as reads
-use Rattle.gray_run.proofs.convert_all.Lts as lts
-use Rattle.gray.proofs.power.Reads as power-reads
-use Rattle.gray_run.proofs.convert.Reads as convert-reads
 
 abbrev Inv-loop : tie.InvT-loop
 Inv-loop n end tally₀ p₀ tally p = n ≤ 8

@@ -1,13 +1,8 @@
 -- `gray_run::convert_random` is safe and ends.
-use Prim.Native.Nat.{ℕ, _+_, _-_, _*_, _/_, _%_, _^_, _≤_, _<_}
-use native.Mathlib.Omega.{arith}
+use Prim.Native.Nat.{_-_, _≤_}
 use borrow.Author.Needs.{needs}
 use Rattle.gray_run.proofs.convert_random.Statement.{statement}
 use Rattle.gray_run.proofs.convert_random.Tie as tie
-use Rattle.gray_run.proofs.convert_random.Reads as reads
-use Rattle.gray_run.proofs.convert_random.Lts as lts
-use Rattle.gray_run.proofs.convert.Reads as convert-reads
-use Rattle.gray_run.proofs.stir.Reads as stir-reads
 
 abbrev Inv-loop : tie.InvT-loop
 Inv-loop tally₀ x₀ i₀ tally x i = i ≤ 5000

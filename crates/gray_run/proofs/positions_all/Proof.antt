@@ -1,16 +1,8 @@
 -- `gray_run::positions_all` is safe and ends.
-use Prim.Native.Nat.{ℕ, _+_, _-_, _*_, _/_, _%_, _^_, _≤_, _<_}
-use native.Mathlib.Omega.{arith}
+use Prim.Native.Nat.{_-_, _≤_}
 use borrow.Author.Needs.{needs}
 use Rattle.gray_run.proofs.positions_all.Statement.{statement}
 use Rattle.gray_run.proofs.positions_all.Tie as tie
-use Rattle.gray_run.proofs.positions_all.Reads as reads
-use Rattle.gray_run.proofs.positions_all.Lts as lts
-use Rattle.gray.proofs.split.Reads as split-reads
-use Rattle.gray_run.proofs.compare.Reads as compare-reads
-use Rattle.gray_run.proofs.plain.position.Reads as position-reads
-use Rattle.gray_run.proofs.positions_of.Reads as positions-of-reads
-use Rattle.gray_run.proofs.stir.Reads as stir-reads
 
 abbrev Inv-loop : tie.InvT-loop
 Inv-loop tally₀ x₀ p₀ tally x p = p ≤ 6561

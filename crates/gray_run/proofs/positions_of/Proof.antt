@@ -1,15 +1,8 @@
 -- `gray_run::positions_of` is safe and ends.
-use Prim.Native.Nat.{ℕ, _+_, _-_, _*_, _/_, _%_, _^_, _≤_, _<_}
-use native.Mathlib.Omega.{arith}
+use Prim.Native.Nat.{_-_, _≤_}
 use borrow.Author.Needs.{needs}
 use Rattle.gray_run.proofs.positions_of.Statement.{statement}
 use Rattle.gray_run.proofs.positions_of.Tie as tie
-use Rattle.gray_run.proofs.positions_of.Reads as reads
-use Rattle.gray_run.proofs.positions_of.Lts as lts
-use Rattle.gray.proofs.position.Reads as positions-position-reads
-use Rattle.gray_run.proofs.compare.Reads as compare-reads
-use Rattle.gray_run.proofs.plain.position.Reads as plain-position-reads
-use Rattle.gray_run.proofs.position_told.Reads as position-told-reads
 
 abbrev Inv-loop : tie.InvT-loop
 Inv-loop p tally₀ k₀ tally k = k ≤ 24

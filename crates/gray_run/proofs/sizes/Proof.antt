@@ -1,12 +1,8 @@
 -- `gray_run::sizes` is safe and ends.
-use Prim.Native.Nat.{ℕ, _+_, _-_, _*_, _/_, _%_, _^_, _≤_, _<_}
-use native.Mathlib.Omega.{arith}
+use Prim.Native.Nat.{_-_, _≤_}
 use borrow.Author.Needs.{needs}
 use Rattle.gray_run.proofs.sizes.Statement.{statement}
 use Rattle.gray_run.proofs.sizes.Tie as tie
-use Rattle.gray_run.proofs.sizes.Reads as reads
-use Rattle.gray_run.proofs.sizes.Lts as lts
-use Rattle.gray_run.proofs.convert_all.Reads as convert-all-reads
 
 abbrev Inv-loop : tie.InvT-loop
 Inv-loop tally₀ n₀ tally n = n ≤ 9

@@ -1,10 +1,9 @@
 -- `gray::balanced::to_balanced` meets its contract: the point turned by one, less the upper end.
-use mathlib.Core.Path.{_≡_, refl, sym, ap, ap₂, _∙_}
-use Prim.Native.Nat.{ℕ, _-_, _/_, _^_, _<_, _≤_}
+use mathlib.Core.Path.{refl, sym, ap₂, _∙_}
+use Prim.Native.Nat.{ℕ, _-_, _/_}
 use native.Mathlib.Omega.{arith}
-use lib.IntN.{ℤ, pos, _-ℤ_}
+use lib.IntN.{pos, _-ℤ_}
 use Rattle.refusals.specs.declared.Verdict.the-variants as verdict
-use Rattle.gray.specs.Balanced.{halfOf, turned}
 use Rattle.gray.proofs.TurnLaw.{power-small, power-above, turned-word}
 use Rattle.gray.proofs.AnswerLaw.{done-so, balanced-meets}
 use Rattle.gray.proofs.BalancedLaw.{half-is, balanced-is}
@@ -12,12 +11,6 @@ use Rattle.gray.proofs.SignLaw.{held-minus}
 use borrow.Author.Needs.{needs}
 use Rattle.gray.proofs.balanced.to_balanced.Statement.{statement}
 use Rattle.gray.proofs.balanced.to_balanced.Tie as tie
-use Rattle.gray.proofs.balanced.to_balanced.Reads as reads
-use Rattle.gray.proofs.balanced.to_balanced.Lts as lts
-use Rattle.gray.proofs.balanced.minus.Reads as minus-reads
-use Rattle.gray.proofs.balanced.turn.Reads as turn-reads
-use Rattle.gray.proofs.map.convertible.Reads as convertible-reads
-use Rattle.gray.proofs.positions.power.Reads as power-reads
 
 -- src/balanced.rt:46:9
 convertible-requires : tie.Need-convertible-requires

@@ -1,14 +1,11 @@
 -- `gray::map::convertible` meets its contract: one verdict for each test.
-use mathlib.Core.Path.{_≡_, refl, sym, ap, _∙_}
-use Prim.Native.Nat.{ℕ, _^_, _<_, _≤_}
+use mathlib.Core.Path.{sym}
+use Prim.Native.Nat.{_^_, _<_, _≤_}
 use native.Mathlib.Omega.{arith}
 use Rattle.gray.proofs.AnswerLaw.{size-low, size-high, range-high, range-so}
 use borrow.Author.Needs.{needs}
 use Rattle.gray.proofs.map.convertible.Statement.{statement}
 use Rattle.gray.proofs.map.convertible.Tie as tie
-use Rattle.gray.proofs.map.convertible.Reads as reads
-use Rattle.gray.proofs.map.convertible.Lts as lts
-use Rattle.gray.proofs.positions.power.Reads as power-reads
 
 -- src/map.rt:56:9
 returns : tie.Need-returns

@@ -1,14 +1,10 @@
 -- `gray::map::point_of` meets its contract: the verdict of `convertible`, and the value of `point_at`.
-use mathlib.Core.Path.{_≡_, refl, sym, ap, _∙_}
+use mathlib.Core.Path.{refl, sym, _∙_}
 use Rattle.refusals.specs.declared.Verdict.the-variants as verdict
 use Rattle.gray.proofs.AnswerLaw.{done-so, point-meets}
 use borrow.Author.Needs.{needs}
 use Rattle.gray.proofs.map.point_of.Statement.{statement}
 use Rattle.gray.proofs.map.point_of.Tie as tie
-use Rattle.gray.proofs.map.point_of.Reads as reads
-use Rattle.gray.proofs.map.point_of.Lts as lts
-use Rattle.gray.proofs.map.convertible.Reads as convertible-reads
-use Rattle.gray.proofs.map.point_at.Reads as point-at-reads
 
 -- src/map.rt:73:9
 convertible-requires : tie.Need-convertible-requires

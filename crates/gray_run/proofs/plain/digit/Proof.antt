@@ -1,11 +1,8 @@
 -- `gray_run::plain::digit` is safe and ends.
-use Prim.Native.Nat.{ℕ, _+_, _-_, _*_, _/_, _%_, _^_, _≤_, _<_}
-use native.Mathlib.Omega.{arith}
+use Prim.Native.Nat.{_-_, _≤_}
 use borrow.Author.Needs.{needs}
 use Rattle.gray_run.proofs.plain.digit.Statement.{statement}
 use Rattle.gray_run.proofs.plain.digit.Tie as tie
-use Rattle.gray_run.proofs.plain.digit.Reads as reads
-use Rattle.gray_run.proofs.plain.digit.Lts as lts
 
 abbrev Inv-loop : tie.InvT-loop
 Inv-loop p k rest₀ i₀ rest i = i ≤ k

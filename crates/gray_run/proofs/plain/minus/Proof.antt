@@ -1,6 +1,5 @@
 -- `gray_run::plain::minus` is safe: both numbers are far from the ends of 64 bits.
 use mathlib.Core.Path.{_≡_, sym, ap₂, subst}
-use Prim.Native.Nat.{ℕ, _^_, _<_, _≤_}
 use native.Mathlib.Omega.{arith}
 use lib.IntN.{ℤ, pos, _-ℤ_}
 use mir.Syntax.{w64}
@@ -10,8 +9,6 @@ use Rattle.gray.proofs.SignLaw.{minus-fits}
 use borrow.Author.Needs.{needs}
 use Rattle.gray_run.proofs.plain.minus.Statement.{statement}
 use Rattle.gray_run.proofs.plain.minus.Tie as tie
-use Rattle.gray_run.proofs.plain.minus.Reads as reads
-use Rattle.gray_run.proofs.plain.minus.Lts as lts
 
 -- src/plain.rt:76:16
 cast-left : tie.Need-cast-left

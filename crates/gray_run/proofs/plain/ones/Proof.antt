@@ -1,13 +1,8 @@
 -- `gray_run::plain::ones` is safe and ends.
-use Prim.Native.Nat.{ℕ, _+_, _-_, _*_, _/_, _%_, _^_, _≤_, _<_}
-use native.Mathlib.Omega.{arith}
+use Prim.Native.Nat.{_-_, _≤_}
 use borrow.Author.Needs.{needs}
 use Rattle.gray_run.proofs.plain.ones.Statement.{statement}
 use Rattle.gray_run.proofs.plain.ones.Tie as tie
-use Rattle.gray_run.proofs.plain.ones.Reads as reads
-use Rattle.gray_run.proofs.plain.ones.Lts as lts
-use Rattle.gray_run.proofs.plain.below.Reads as below-reads
-use Rattle.gray_run.proofs.plain.digit.Reads as digit-reads
 
 abbrev Inv-loop : tie.InvT-loop
 Inv-loop n x d y₀ k₀ y k = k ≤ n

@@ -1,12 +1,8 @@
 -- `gray_run::plain::position` is safe and ends.
-use Prim.Native.Nat.{ℕ, _+_, _-_, _*_, _/_, _%_, _^_, _≤_, _<_}
-use native.Mathlib.Omega.{arith}
+use Prim.Native.Nat.{_-_, _≤_}
 use borrow.Author.Needs.{needs}
 use Rattle.gray_run.proofs.plain.position.Statement.{statement}
 use Rattle.gray_run.proofs.plain.position.Tie as tie
-use Rattle.gray_run.proofs.plain.position.Reads as reads
-use Rattle.gray_run.proofs.plain.position.Lts as lts
-use Rattle.gray_run.proofs.plain.digit.Reads as digit-reads
 
 abbrev Inv-loop : tie.InvT-loop
 Inv-loop p k none left₀ j₀ left j = j ≤ 41
