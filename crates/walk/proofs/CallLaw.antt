@@ -73,14 +73,16 @@ module _ (n : ℕ) (T : ℕ → ℕ → Vector) where
   pub step-is : (p : ℕ) (z : Bool) (s : State) → s .place ≡ p → isZero ((stepOf 3 (walkOf n T) s) .value) ≡ z → Stepped p z s (stepOf 3 (walkOf n T) s)
   unfolding stepOf noteOf
   step-is p z s h e =
+      let r = moveOf T (positions 3 (s .place)) s in
       let u = move-same (positions 3 (s .place)) s in
       record {
         place = omega (arith, u .0);
         additions = move-cost (positions 3 (s .place)) s ∙ ap (λ (x : ℕ). s .additions + min 2 (length (positions 3 x))) h;
-        found = ap (λ (b : Bool). foundOf b _) e ∙ ap (foundOf z) (u .1);
+        found = ap (λ (b : Bool). foundOf b (r .found)) e ∙ ap (foundOf z) (u .1);
         list =
-            ap (λ (b : Bool). listOf b _ _ _) e ∙ ap (λ (x : ℕ). listOf z (pointOf 3 n x) _ _) (u .0 ∙ h)
-            ∙ ap (λ (x : ℕ). listOf z (pointOf 3 n p) x _) (u .1) ∙ ap (listOf z (pointOf 3 n p) (s .found)) (u .2);
+            ap (λ (b : Bool). listOf b (pointOf 3 n (r .place)) (r .found) (r .list)) e
+            ∙ ap (λ (x : ℕ). listOf z (pointOf 3 n x) (r .found) (r .list)) (u .0 ∙ h)
+            ∙ ap (λ (x : ℕ). listOf z (pointOf 3 n p) x (r .list)) (u .1) ∙ ap (listOf z (pointOf 3 n p) (s .found)) (u .2);
       }
 
 -- ---- a trail, from a place on
@@ -215,6 +217,9 @@ module _ (F : ℕ → Poly) (n m e : ℕ) (T : ℕ → ℕ → Vector) (table : 
       none : (x : ℕ) → 0 + x ≡ x
       none x = omega arith
 
+  stands-at : (k j : ℕ) (r : State) → k ≡ j → Stands F n m k r → Stands F n m j r
+  stands-at k j r i h = rw (← i) h
+
   pub call-is : (b p : ℕ) (s : State) → p ≤ e → Stands F n m p s → s .found ≡ 0 → s .additions ≡ 0
       → Answers Q b p (s .list) (runOf 3 (walkOf n T) (haltOf e) b s)
       × Stands F n m ((runOf 3 (walkOf n T) (haltOf e) b s) .place) (runOf 3 (walkOf n T) (haltOf e) b s)
@@ -222,5 +227,5 @@ module _ (F : ℕ → Poly) (n m e : ℕ) (T : ℕ → ℕ → Vector) (table : 
       let c = search-is b p s l h (omega arith) in
       let i : length (s .list) - s .found ≡ length (s .list) = omega arith in (
         answers b p s _ f a (rw i at (c .called)),
-        rw (c .called .place) (c .stands),
+        stands-at _ _ _ (sym (c .called .place)) (c .stands),
       )
