@@ -8,3 +8,5 @@ pub mod AnswerLaw
 pub mod VectorLaw
 pub mod WriteLaw
 pub mod TurnLaw
+pub mod EvaluateLaw
+pub mod PackLaw
