@@ -29,20 +29,11 @@ use Rattle.search.specs.Search.{trailOf}
 use Rattle.search.specs.Session.{Request, Sums, sessionOf, fairOf, callsOf}
 use Rattle.search.specs.Demand.{CommonZero, fromStart, WholeWalk}
 use Rattle.search.proofs.PlaceLaw.{two}
+use Rattle.search.proofs.SystemLaw.{value-at}
 use Rattle.search.proofs.SessionLaw.{Same, session-is}
 
 trans-iff : {A B C : Type 0} → A ↔ B → B ↔ C → A ↔ C
 trans-iff f g = (λ a. g .0 (f .0 a), λ c. f .1 (g .1 c))
-
--- a value looks at the unknowns below n alone
-pub value-at : (f : Poly) (n : ℕ) (x y : ℕ → ℕ) → ((k : ℕ) → k < n → x k ≡ y k) → valueOf f n x ≡ valueOf f n y
-unfolding valueOf
-value-at f n x y h =
-    ap₂ (λ (u v : ℕ). u + v)
-    (ap (λ (u : ℕ). f .const + u) (sum-ext n (λ i. f .lin i * x i) (λ i. f .lin i * y i) (λ i l. ap (λ (u : ℕ). f .lin i * u) (h i l))))
-    (sum-ext n (λ i. sum (n - i) (λ d. f .quad i (i + d) * (x i * x (i + d)))) (λ i. sum (n - i) (λ d. f .quad i (i + d) * (y i * y (i + d))))
-    (λ i l. sum-ext (n - i) (λ d. f .quad i (i + d) * (x i * x (i + d))) (λ d. f .quad i (i + d) * (y i * y (i + d)))
-    (λ d m. ap₂ (λ (u v : ℕ). f .quad i (i + d) * (u * v)) (h i l) (h (i + d) (omega arith)))))
 
 fair-one : (q : Request) (cs : List Call) → AllFair cs → (x y : Bool) → eqb (q .budget) 0 ≡ x → eqb (length (q .list)) 0 ≡ y
     → AllFair (fairOf (x || y) (record { budget = q .budget; room = length (q .list) }) cs)

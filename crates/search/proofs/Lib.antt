@@ -8,3 +8,4 @@ pub mod SlotsLaw
 pub mod SystemLaw
 pub mod DemandLaw
 pub mod Starred
+pub mod OpenLaw

@@ -1,10 +1,13 @@
 // The walk record: opening at any place, and the search that moves it on.
 // Contracts cite specs/Opened (the record at a place) and specs/Search (what a call gives, legal or refused).
 use gray::Place;
+use opening::opened;
 use refusals::Refusal;
 use refusals::Verdict;
 use trits::Vector;
 use walks::Report;
+ghost use mathlib.Core.Path.{_≡_};
+ghost use Rattle.search.specs.Opened.{openOf, noRecord};
 
 mod opening;
 mod records;
@@ -34,4 +37,43 @@ pub enum Answer {
 pub struct Outcome {
     pub answer: Answer,
     pub record: Record,
+}
+
+// The record of a table at any place 0 to 3^n.
+pub fn open(n: u64, m: u64, table: &[u64], place: Place) -> Opened
+    ensures { λ r. ⌜ r ≡ openOf n m (now (table .entry)) (place .0) ⌝ }
+{
+    let verdict = tables::check(n, m, table);
+    if let Verdict::Refused(_) = verdict {
+        return Opened {
+            verdict,
+            record: no_record(),
+        };
+    }
+    let at = place.0;
+    if at > gray::power(n) {
+        return Opened {
+            verdict: Verdict::Refused(Refusal::Range),
+            record: no_record(),
+        };
+    }
+    let record = opened(n, m, table, at);
+    Opened {
+        verdict: Verdict::Done,
+        record,
+    }
+}
+
+// The record of zeros, which goes with a refusal.
+fn no_record() -> Record
+    ensures { λ r. ⌜ r ≡ noRecord ⌝ }
+{
+    let none = Vector { high: 0, low: 0 };
+    Record {
+        n: 0,
+        m: 0,
+        place: Place(0),
+        value: none,
+        slots: [none; 20],
+    }
 }
