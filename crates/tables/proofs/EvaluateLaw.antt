@@ -18,7 +18,7 @@ use Rattle.trits.proofs.ExtLaw.{of-ext}
 use Rattle.gray.specs.Numbers.{digit}
 use Rattle.polynomials.specs.Poly.{Poly, valueOf}
 use Rattle.tables.specs.Monomials.{countOf, indexOf}
-use Rattle.tables.specs.Words.{entry, Table, polyAt, rowOf}
+use Rattle.tables.specs.Words.{entry, Table, polyAt, rowOf, valuesAt}
 use Rattle.tables.proofs.IndexLaw.{index-lt, count-is}
 use Rattle.tables.proofs.VectorLaw.{of-self, of-add, of-times}
 use Rattle.tables.proofs.WriteLaw.{row-entry}
@@ -127,3 +127,8 @@ value-ext f n x y e =
     (sum-ext n (λ i. sum (n - i) (λ d. f .quad i (i + d) * (x i * x (i + d)))) (λ i. sum (n - i) (λ d. f .quad i (i + d) * (y i * y (i + d))))
     (λ i h. sum-ext (n - i) (λ d. f .quad i (i + d) * (x i * x (i + d))) (λ d. f .quad i (i + d) * (y i * y (i + d)))
     (λ d l. ap₂ (λ (u v : ℕ). f .quad i (i + d) * (u * v)) (e i h) (e (i + d) (omega arith)))))
+
+pub values-are : (n m : ℕ) (t : List ℕ) (x : ℕ) (d : ℕ → ℕ) → ((k : ℕ) → k < n → d k ≡ digit 3 x k) → ofTrits m (λ e. valueOf (polyAt n t e) n d) ≡ valuesAt n m t x
+unfolding valuesAt
+values-are n m t x d h =
+    of-ext m (λ e. valueOf (polyAt n t e) n d) (λ e. valueOf (polyAt n t e) n (digit 3 x)) (λ e l. ap (λ (y : ℕ). y % 3) (value-ext (polyAt n t e) n d (digit 3 x) h))
