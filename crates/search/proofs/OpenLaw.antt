@@ -22,6 +22,7 @@ use Rattle.tables.specs.Monomials.{countOf}
 use Rattle.tables.specs.Words.{Table, entry, legalFront, polyAt, coefficientsOf}
 use Rattle.tables.specs.Answers.{long, paired, checkedOf, copyVerdict, coefficientsAfter}
 use Rattle.tables.proofs.WordLaw.{front-of, front-whole}
+use Rattle.tables.proofs.RoundLaw.{coefficients-table}
 use Rattle.search.specs.declared.Record.{Record}
 use Rattle.search.specs.Opened.{systemOf, valueAt, openedAt}
 use Rattle.search.specs.Parts.{Slots}
@@ -86,3 +87,15 @@ unfolding openedAt
 opened-is n m t p v s x h e w =
     ap₂ (λ (u : Vector) (r : List Vector). record { n = n; m = m; place = record { 0 = p }; value = u; slots = r })
     (e ∙ value-here n m t (p - 1) x h) (slots-are n m t (p - 1) s w)
+
+-- the same from what the calls say: d is what was written, q the latest place
+pub opened-from : (n m : ℕ) (t d : List ℕ) (p q : ℕ) (v : Vector) (s : List Vector) (x : ℕ → ℕ)
+    → d ≡ coefficientsOf n m t → q ≡ p - 1
+    → ((k : ℕ) → k < n → x k ≡ pointDigit 3 q k)
+    → ((j : ℕ) → Table n j d → v ≡ ofTrits j (λ e. valueOf (polyAt n d e) n x))
+    → Slots n d q s
+    → record { n = n; m = m; place = record { 0 = p }; value = v; slots = s } ≡ openedAt n m t p
+opened-from n m t d p q v s x e l h g w =
+    let a : Table n m d = rw e (coefficients-table n m t) in
+    opened-is n m t p v s x (λ k i. h k i ∙ ap (λ (y : ℕ). pointDigit 3 y k) l)
+    (g m a ∙ ap (λ (c : List ℕ). ofTrits m (λ e. valueOf (polyAt n c e) n x)) e) (rw (← e, ← l) w)

@@ -1,3 +1,9 @@
+-- `search::opening::fill` meets its contract: the parts of the record, from the coefficients that were written.
+use mathlib.Core.Path.{_≡_, refl, sym, ap, _∙_}
+use Prim.Native.Nat.{ℕ, _-_, _^_, _≤_, _<_}
+use native.Mathlib.Omega.{arith}
+use lib.ListN.{length, getD}
+use Rattle.search.proofs.OpenLaw.{within, power-small, coefficients-are, opened-from}
 use borrow.Author.Needs.{needs}
 use Rattle.search.proofs.opening.fill.Statement.{statement}
 use Rattle.search.proofs.opening.fill.Tie as tie
@@ -15,7 +21,7 @@ latest-place-requires c κs = search needs
 
 -- src/opening.rt:129:13
 digits-requires : tie.Need-digits-requires
-digits-requires c κs = ?
+digits-requires c κs = let s = c .before .before .before in within (s .args .n) (s .args .m) (s .args .table .now) (s .pre .0) .most
 
 -- src/opening.rt:130:5
 coefficients-requires : tie.Need-coefficients-requires
@@ -23,11 +29,17 @@ coefficients-requires c κs = search needs
 
 -- src/opening.rt:131:9
 value-at-requires : tie.Need-value-at-requires
-value-at-requires c κs = ?
+value-at-requires c κs =
+    let s = c .before .before .before .before .before .before .before .before .before .before in
+    (within (s .args .n) (s .args .m) (s .args .table .now) (s .pre .0) .most, c .before .before .before .before .coefficients .kept .1 .1 .1 .0 ∙ s .pre .2)
 
 -- src/opening.rt:132:9
 slots-requires : tie.Need-slots-requires
-slots-requires c κs = ?
+slots-requires c κs =
+    let s = c .before .before .before .before .before .before .before .before .before .before .before .before in
+    (within (s .args .n) (s .args .m) (s .args .table .now) (s .pre .0) .most,
+    omega (arith, c .before .before .before .before .before .before .before .before .before .latest-place .ensures, s .pre .1, power-small (s .args .n) (s .args .m) (s .args .table .now) (s .pre .0)),
+    c .before .before .before .before .before .before .coefficients .kept .1 .1 .1 .0 ∙ s .pre .2)
 
 -- src/opening.rt:123:1
 same-length : tie.Need-same-length
@@ -35,7 +47,14 @@ same-length c = search needs
 
 -- src/opening.rt:123:1
 returns : tie.Need-returns
-returns c = ?
+returns c =
+    let s = c .before .before .before .before .before .before .before .before .before .before .before .before .before in
+    let n = s .args .n in
+    let m = s .args .m in
+    let t = s .args .table .now in
+    opened-from n m t _ (s .args .place) _ _ _ (λ k. getD (c .before .before .before .before .before .before .before .before .before .digits .result) k 0)
+    (coefficients-are n m t (s .pre .0) (s .args .c .now) _ (s .pre .2) (c .before .before .before .before .before .before .before .coefficients .ensures .1))
+    (c .before .before .before .before .before .before .before .before .before .before .latest-place .ensures) (c .before .before .before .before .before .before .before .before .before .digits .ensures) (c .before .before .value-at .ensures) (c .slots .ensures)
 
 pub fill-spec : {M : Type 1} → statement M
 fill-spec =
