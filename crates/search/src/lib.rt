@@ -7,7 +7,9 @@ use refusals::Verdict;
 use trits::Vector;
 use walks::Report;
 ghost use mathlib.Core.Path.{_≡_};
-ghost use Rattle.search.specs.Opened.{openOf, noRecord};
+ghost use Rattle.search.specs.Opened.{openOf, refusedOpen, noRecord};
+ghost use Rattle.refusals.specs.declared.Verdict.the-variants.{Done};
+ghost use Rattle.tables.specs.Answers.{checkedOf};
 
 mod opening;
 mod records;
@@ -44,23 +46,34 @@ pub fn open(n: u64, m: u64, table: &[u64], place: Place) -> Opened
     ensures { λ r. ⌜ r ≡ openOf n m (now (table .entry)) (place .0) ⌝ }
 {
     let verdict = tables::check(n, m, table);
-    if let Verdict::Refused(_) = verdict {
-        return Opened {
-            verdict,
-            record: no_record(),
-        };
+    match verdict {
+        Verdict::Refused(f) => refused(f),
+        Verdict::Done => open_checked(n, m, table, place.0),
     }
-    let at = place.0;
+}
+
+// The table was checked: the place is left to judge.
+fn open_checked(n: u64, m: u64, table: &[u64], at: u64) -> Opened
+    requires { ⌜ checkedOf n m (now table) ≡ Done ⌝ }
+    ensures { λ r. ⌜ r ≡ openOf n m (now (table .entry)) at ⌝ }
+{
     if at > gray::power(n) {
-        return Opened {
-            verdict: Verdict::Refused(Refusal::Range),
-            record: no_record(),
-        };
+        return refused(Refusal::Range);
     }
     let record = opened(n, m, table, at);
     Opened {
         verdict: Verdict::Done,
         record,
+    }
+}
+
+// A refusal, with the record of zeros.
+fn refused(f: Refusal) -> Opened
+    ensures { λ r. ⌜ r ≡ refusedOpen f ⌝ }
+{
+    Opened {
+        verdict: Verdict::Refused(f),
+        record: no_record(),
     }
 }
 
