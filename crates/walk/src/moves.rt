@@ -86,7 +86,8 @@ pub fn head(
             additions: v.additions,
         };
     }
-    let c = b + gray::first_position(rest - 1);
+    let f = gray::split(rest - 1);
+    let c = b + f.position;
     let t = tables::entry(table, n, b, c);
     let s = plus(slot, t, additions);
     let up = s.vector;
