@@ -23,7 +23,7 @@ use Rattle.gray.proofs.LatestLaw.{moves, moves-rest}
 use Rattle.polynomials.specs.Poly.{Poly, valueOf, changeOf, eval, diff, tableOf}
 use Rattle.polynomials.proofs.FormLaw.{eval-value, diff-change}
 use Rattle.polynomials.proofs.SlotLaw.{slotAt, slot-one, slot-two, slot-other, value-step}
-use Rattle.walks.specs.Walk.{stepOf, iterate}
+use Rattle.walks.specs.Walk.{stepOf}
 use Rattle.walk.specs.Step.{State, push, lift, bump, moveOf, noteOf, walkOf}
 use Rattle.walk.specs.Meaning.{Good, Sees, Tabled, Stands}
 use Rattle.walk.proofs.MoveLaw.{two}

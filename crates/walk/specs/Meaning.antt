@@ -10,7 +10,6 @@ use Rattle.trits.specs.Trit.{trit, Legal, none}
 use Rattle.gray.specs.Positions.{positions, latest}
 use Rattle.gray.specs.Numbers.{pointDigit, pointOf}
 use Rattle.polynomials.specs.Poly.{Poly, valueOf, eval, diff, tableOf}
-use Rattle.walks.specs.declared.Report.{Report}
 use Rattle.walks.specs.Calls.{Trail, zerosIn, costIn, reportOf, stopAt, listAfter}
 use Rattle.walk.specs.Step.{State}
 

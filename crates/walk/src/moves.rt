@@ -2,8 +2,7 @@
 use gray::Place;
 use trits::Vector;
 ghost use mathlib.Core.Path.{_≡_};
-ghost use mathlib.Core.Bool.{true};
-ghost use Prim.Native.Nat.{ℕ, _+_, _*_, _^_, _<_, _≤_};
+ghost use Prim.Native.Nat.{_+_, _*_, _^_, _<_, _≤_};
 ghost use lib.ListN.{length, getD};
 ghost use Rattle.trits.specs.Trit.{none};
 ghost use Rattle.trits.specs.Words.{addOf, isZero};

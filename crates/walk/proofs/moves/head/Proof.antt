@@ -1,12 +1,12 @@
 -- `walk::moves::head` meets its contract: by the number of positions, none, one or two.
-use mathlib.Core.Path.{_≡_, refl, sym, ap, _∙_}
+use mathlib.Core.Path.{_≡_, sym, ap, _∙_}
 use Prim.Native.Nat.{ℕ, _+_, _-_, _*_, _^_, _<_}
 use native.Mathlib.Nat.{mul-zero}
 use native.Mathlib.Omega.{arith}
 use Rattle.gray.specs.Positions.{lowestOf}
 use Rattle.gray.proofs.LowestLaw.{of-lt}
 use Rattle.walk.specs.Run.{product}
-use Rattle.walk.proofs.MoveLaw.{two, end-small, head-none, head-one, head-two, second, alone, above}
+use Rattle.walk.proofs.MoveLaw.{two, head-none, head-one, head-two, second, alone, above}
 use borrow.Author.Needs.{needs}
 use Rattle.walk.proofs.moves.head.Statement.{statement}
 use Rattle.walk.proofs.moves.head.Tie as tie
