@@ -1,5 +1,5 @@
 -- What the loop over blocks keeps: the walk so far, at a place above 0 that 27 divides.
-use mathlib.Core.Path.{_≡_, refl, sym, ap, _∙_}
+use mathlib.Core.Path.{_≡_, sym, ap, _∙_}
 use mathlib.Core.List.{List}
 use Prim.Native.Nat.{ℕ, _+_, _-_, _*_, _/_, _%_, _^_, _≤_, _<_}
 use native.Mathlib.Omega.{arith}
@@ -16,7 +16,7 @@ use Rattle.walk.specs.Run.{stateOf, product, searchOf, Sized, Sane}
 use Rattle.walk.specs.declared.Ran.{Ran}
 use Rattle.walk.specs.declared.parts.Part.{Part}
 use Rattle.walk.proofs.MoveLaw.{two, end-small}
-use Rattle.walk.proofs.PartLaw.{low27, lift27, apart}
+use Rattle.walk.proofs.PartLaw.{lift27, apart}
 use Rattle.walk.proofs.WalkedLaw.{Walked, walked-none, walked-more}
 
 pub record Kept (t : List ℕ) (n e budget left : ℕ) (l₀ l : List ℕ) (v₀ v : List Vector) (x₀ x : Part) : Type 0 where

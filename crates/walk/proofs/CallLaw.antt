@@ -1,14 +1,14 @@
 -- The search over a state that stands at place p is the call on the trail of its system: by induction over the budget, a place at a time.
 use mathlib.Core.Path.{_≡_, refl, sym, ap, _∙_}
-use mathlib.Core.Bool.{Bool, true, false, true≢false, _&&_, _||_}
+use mathlib.Core.Bool.{Bool, true, false, true≢false, _||_}
 use mathlib.Core.List.{List, [], _∷_, _++_}
-use mathlib.Core.Logic.{by-cases, _↔_}
-use Prim.Native.Nat.{ℕ, zero, suc, _+_, _-_, _*_, _%_, _^_, _≤_, _<_, min}
+use mathlib.Core.Logic.{by-cases}
+use Prim.Native.Nat.{ℕ, zero, suc, _+_, _-_, _%_, _^_, _≤_, _<_, min}
 use native.Mathlib.Nat.{min-eq-left}
 use native.Mathlib.Decide.{ℕ-discrete}
 use native.Mathlib.Omega.{arith}
 use lib.Dec.{eqb}
-use lib.ListN.{length, take, drop}
+use lib.ListN.{length, drop}
 use borrow.Author.Tests.{eq-eqb, ne-eqb, eqb-true}
 use Rattle.trits.specs.declared.Vector.{Vector}
 use Rattle.trits.specs.Trit.{trit}
@@ -20,7 +20,7 @@ use Rattle.gray.specs.Numbers.{pointDigit, pointOf}
 use Rattle.polynomials.specs.Poly.{Poly, valueOf, eval}
 use Rattle.polynomials.proofs.FormLaw.{eval-value}
 use Rattle.walks.specs.Walk.{stepOf, runOf}
-use Rattle.walks.specs.Calls.{Trail, listed, zerosIn, costIn, roomAfter, pointsIn, reportOf, listAfter, stopAt}
+use Rattle.walks.specs.Calls.{Trail, zerosIn, costIn, roomAfter, pointsIn, reportOf, listAfter, stopAt}
 use Rattle.walks.proofs.RunLaw.{run-none, run-halt, run-go}
 use Rattle.walk.specs.Step.{State, push, lift, bump, moveOf, noteOf, walkOf, foundOf, listOf}
 use Rattle.walk.specs.Run.{haltOf}

@@ -6,3 +6,4 @@ pub mod BlocksLaw
 pub mod MeanLaw
 pub mod ListLaw
 pub mod CallLaw
+pub mod Cases

@@ -3,7 +3,7 @@ use mathlib.Core.Path.{_≡_, refl, sym, ap, _∙_}
 use mathlib.Core.List.{List, [], _∷_}
 use mathlib.Core.Logic.{by-cases}
 use Prim.Native.Nat.{ℕ, zero, suc, _+_, _-_, _*_, _/_, _%_, _^_, _<_, _≤_}
-use native.Mathlib.Nat.{mul-zero, add-zero, add-suc, suc-add}
+use native.Mathlib.Nat.{mul-zero, mod-mod}
 use native.Mathlib.Decide.{ℕ-discrete, decLt}
 use native.Mathlib.Numerals.{add-one}
 use native.Mathlib.Omega.{arith}
@@ -11,17 +11,19 @@ use lib.ListN.{length, getD, set, length-set}
 use lib.Seq.{getD-set-same, getD-set-other, set-out}
 use Rattle.residues.proofs.ModLaw.{Cong, cof, csym, _⨾_, cdrop, cadd}
 use Rattle.trits.specs.declared.Vector.{Vector}
-use Rattle.trits.specs.Trit.{trit, Legal, none}
+use Rattle.trits.specs.Trit.{trit, Legal, ofTrits, none}
 use Rattle.trits.specs.Words.{addOf}
 use Rattle.trits.proofs.SumLaw.{meets}
+use Rattle.trits.proofs.ExtLaw.{is-of, of-ext}
 use Rattle.gray.specs.Positions.{lowestOf, positions, latest}
 use Rattle.gray.specs.Numbers.{pointDigit}
 use Rattle.gray.proofs.LowestLaw.{of-times, of-lt}
 use Rattle.gray.proofs.PositionLaw.{positions-none, positions-one, positions-two}
 use Rattle.gray.proofs.LatestLaw.{moves, moves-rest}
-use Rattle.polynomials.specs.Poly.{Poly, eval, diff, tableOf}
+use Rattle.polynomials.specs.Poly.{Poly, valueOf, changeOf, eval, diff, tableOf}
+use Rattle.polynomials.proofs.FormLaw.{eval-value, diff-change}
 use Rattle.polynomials.proofs.SlotLaw.{slotAt, slot-one, slot-two, slot-other, value-step}
-use Rattle.walks.specs.Walk.{stepOf, iterate}
+use Rattle.walks.specs.Walk.{stepOf}
 use Rattle.walk.specs.Step.{State, push, lift, bump, moveOf, noteOf, walkOf}
 use Rattle.walk.specs.Meaning.{Good, Sees, Tabled, Stands}
 use Rattle.walk.proofs.MoveLaw.{two}
@@ -92,6 +94,17 @@ module _ (m n : ℕ) (T : ℕ → ℕ → Vector) (table : (b c : ℕ) → b ≤
   pub step-good : (s : State) → s .place < 3 ^ n → Good m s → Good m (stepOf 3 (walkOf n T) s)
   unfolding stepOf noteOf
   step-good s l g = let h = move-good (s .place) s l g in record { value = h .value; slots = h .slots }
+
+-- ---- slots from n on stay
+same-slots : (n b : ℕ) (T : Vector) (s : State) → b < n → (i : ℕ) → n ≤ i → getD ((bump b T s) .slots) i none ≡ getD (s .slots) i none
+unfolding bump push lift
+same-slots n b T s l i h = getD-set-other (s .slots) b i _ none (λ e. omega arith)
+
+pub step-rest : (n : ℕ) (T : ℕ → ℕ → Vector) (s : State) → s .place < 3 ^ n → (i : ℕ) → n ≤ i → getD ((stepOf 3 (walkOf n T) s) .slots) i none ≡ getD (s .slots) i none
+unfolding stepOf noteOf moveOf push
+step-rest n T s l i h =
+    by-positions n T (λ u. getD (u .slots) i none ≡ getD (s .slots) i none) (s .place) s l (λ e. refl) (λ q e z. refl)
+    (λ q ps e z. same-slots n _ _ s (pair n q (rw e at l) z .first) i h)
 
 -- ---- one equation
 module _ (m n e : ℕ) (f : Poly) (T : ℕ → ℕ → Vector) (table : (b c : ℕ) → b ≤ c → c < n → Legal m (T b c))
@@ -187,4 +200,19 @@ module _ (F : ℕ → Poly) (n m : ℕ) (T : ℕ → ℕ → Vector) (table : Ta
         good = step-good m n T (table .legal) s (rw (h .place) l) (h .good);
         sees = λ e i. step-sees m n e (F e) T (table .legal) i (λ b c. table .entry e b c i) p s (h .good) l (h .sees e i);
         place = omega (arith, step-near n T s .place, h .place);
+        rest = λ i j. step-rest n T s (rw (h .place) l) i j ∙ h .rest i j;
       }
+
+-- ---- a state that stands at p holds what an opening at p gives
+module _ (F : ℕ → Poly) (n m p : ℕ) (s : State) (h : Stands F n m p s) where
+  pub stands-value : s .value ≡ ofTrits m (λ e. valueOf (F e) n (pointDigit 3 (p - 1)))
+  stands-value =
+      is-of m _ (s .value) (h .good .value)
+      (λ e l. h .sees e l .value ∙ ap (λ (x : ℕ). x % 3) (eval-value (F e) n (pointDigit 3 (p - 1))))
+
+  pub stands-slot : (b : ℕ) → b < n → getD (s .slots) b none ≡ ofTrits m (λ e. changeOf 3 (F e) n b (pointDigit 3 (latest 3 b (p - 1) - 1)))
+  stands-slot b j =
+      let x = pointDigit 3 (latest 3 b (p - 1) - 1) in
+      is-of m (λ e. diff (F e) n b x) (getD (s .slots) b none) (h .good .slots b) (λ e l. h .sees e l .slots b j)
+      ∙ of-ext m (λ e. diff (F e) n b x) (λ e. changeOf 3 (F e) n b x)
+      (λ e l. sym (mod-mod (diff (F e) n b x) 3) ∙ ap (λ (y : ℕ). y % 3) (diff-change 3 two (F e) n b x j))

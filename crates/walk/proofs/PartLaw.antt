@@ -12,7 +12,7 @@ use Rattle.gray.proofs.LowestLaw.{of-times}
 use Rattle.gray.proofs.PositionLaw.{positions-next}
 use Rattle.walks.specs.Walk.{iterate, turns, block}
 use Rattle.walks.proofs.BlockLaw.{block-is}
-use Rattle.walk.specs.Step.{State, bump, moveOf, noteOf, walkOf}
+use Rattle.walk.specs.Step.{State, bump, moveOf, walkOf}
 use Rattle.walk.specs.Parts.{whole, partOf, threeOf, nineOf, legsOf, bigOf, topOf, headed}
 use Rattle.walk.specs.Run.{stateOf}
 use Rattle.walk.specs.declared.Ran.{Ran}

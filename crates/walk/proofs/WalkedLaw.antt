@@ -3,7 +3,7 @@ use mathlib.Core.Path.{_≡_, refl, sym, ap, _∙_}
 use mathlib.Core.Bool.{Bool, true, false, true≢false, not, _&&_}
 use mathlib.Core.List.{List}
 use mathlib.Core.Logic.{by-cases}
-use Prim.Native.Nat.{ℕ, zero, suc, _+_, _-_, _*_, _^_, _≤_, _<_}
+use Prim.Native.Nat.{ℕ, _+_, _-_, _*_, _^_, _≤_, _<_}
 use native.Mathlib.Decide.{ℕ-discrete}
 use native.Mathlib.Omega.{arith}
 use lib.Dec.{eqb}
@@ -13,7 +13,7 @@ use Rattle.trits.specs.declared.Vector.{Vector}
 use Rattle.walks.specs.Walk.{stepOf, iterate}
 use Rattle.walk.specs.Step.{State, walkOf}
 use Rattle.gray.specs.Positions.{lowestOf}
-use Rattle.walk.specs.Run.{product, haltOf, searchOf, Sized}
+use Rattle.walk.specs.Run.{product, searchOf, Sized}
 use Rattle.walk.proofs.MoveLaw.{end-small, first-lt}
 use Rattle.walk.proofs.SearchLaw.{iterate-near, leap, ended, full, spent}
 

@@ -10,7 +10,6 @@ use Rattle.trits.specs.Trit.{trit, Legal, none}
 use Rattle.gray.specs.Positions.{positions, latest}
 use Rattle.gray.specs.Numbers.{pointDigit, pointOf}
 use Rattle.polynomials.specs.Poly.{Poly, valueOf, eval, diff, tableOf}
-use Rattle.walks.specs.declared.Report.{Report}
 use Rattle.walks.specs.Calls.{Trail, zerosIn, costIn, reportOf, stopAt, listAfter}
 use Rattle.walk.specs.Step.{State}
 
@@ -27,11 +26,13 @@ pub record Sees (f : Poly) (n e p : ℕ) (s : State) : Type 0 where
   pub value : trit (s .value) e ≡ eval f n (pointDigit 3 (p - 1)) % 3
   pub slots : (b : ℕ) → b < n → trit (getD (s .slots) b none) e ≡ diff f n b (pointDigit 3 (latest 3 b (p - 1) - 1)) % 3
 
--- the state stands before place p of the walk of the m equations F: every vector is legal, and every equation is seen
+-- the state stands before place p of the walk of the m equations F: every vector is legal, every equation is seen,
+-- and slots from n on are zero
 pub record Stands (F : ℕ → Poly) (n m p : ℕ) (s : State) : Type 0 where
   pub place : s .place ≡ p
   pub good : Good m s
   pub sees : (e : ℕ) → e < m → Sees (F e) n e p s
+  pub rest : (i : ℕ) → n ≤ i → getD (s .slots) i none ≡ none
 
 -- T holds, legally, the differences of the products of the system of the m equations F
 pub record Tabled (F : ℕ → Poly) (n m : ℕ) (T : ℕ → ℕ → Vector) : Type 0 where

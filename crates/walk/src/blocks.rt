@@ -16,7 +16,7 @@ ghost use Rattle.trits.specs.Trit.{none};
 ghost use Rattle.gray.specs.Positions.{lowestOf};
 ghost use Rattle.walks.specs.Walk.{iterate};
 ghost use Rattle.walk.specs.Step.{walkOf};
-ghost use Rattle.walk.specs.Parts.{whole, Went, topOf, partOf};
+ghost use Rattle.walk.specs.Parts.{whole, topOf, partOf};
 ghost use Rattle.walk.specs.Run.{stateOf, product, searchOf, Sized, Sane};
 
 // The parts after a block, and the slot that moved at its first place.

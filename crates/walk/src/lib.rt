@@ -37,7 +37,8 @@ fn lead(place: u64, budget: u64) -> u64
 pub fn run(table: &[u64], n: usize, end: u64, w: Walker, budget: u64, list: &mut [u64]) -> Ran
     requires { ⌜ Sized (now table) n end ⌝ }
     requires { ⌜ w .place ≤ end ⌝ }
-    ensures { λ r. ⌜ stateOf r (now (list .exit)) ≡ searchOf (now (table .entry)) n end budget (fresh w (now (list .entry))) ⌝ }
+    ensures state { λ r. ⌜ stateOf r (now (list .exit)) ≡ searchOf (now (table .entry)) n end budget (fresh w (now (list .entry))) ⌝ }
+    ensures range { λ r. ⌜ (w .place ≤ r .walker .place) × (r .walker .place ≤ end) ⌝ }
 {
     let start = w.place;
     let r = Ran {

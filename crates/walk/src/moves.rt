@@ -2,8 +2,7 @@
 use gray::Place;
 use trits::Vector;
 ghost use mathlib.Core.Path.{_≡_};
-ghost use mathlib.Core.Bool.{true};
-ghost use Prim.Native.Nat.{ℕ, _+_, _*_, _^_, _<_, _≤_};
+ghost use Prim.Native.Nat.{_+_, _*_, _^_, _<_, _≤_};
 ghost use lib.ListN.{length, getD};
 ghost use Rattle.trits.specs.Trit.{none};
 ghost use Rattle.trits.specs.Words.{addOf, isZero};
@@ -86,7 +85,8 @@ pub fn head(
             additions: v.additions,
         };
     }
-    let c = b + gray::first_position(rest - 1);
+    let f = gray::split(rest - 1);
+    let c = b + f.position;
     let t = tables::entry(table, n, b, c);
     let s = plus(slot, t, additions);
     let up = s.vector;

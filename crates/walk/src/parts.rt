@@ -33,7 +33,7 @@ pub struct Top {
 
 // The value is noted, and the place is passed.
 fn note(n: usize, mut x: Part, list: &mut [u64]) -> Part
-    requires { ⌜ (n ≤ 20) × (x .found + 1 ≤ length (now list)) × (x .place + 1 < 2 ^ 64) × (x .additions + 0 < 2 ^ 64) ⌝ }
+    requires { ⌜ (n ≤ 20) × (x .found + 1 ≤ length (now list)) × (x .place + 1 < 2 ^ 64) ⌝ }
     ensures state { λ r. ⌜ ((rest : List Vector) → whole r rest (now (list .exit)) ≡ noteOf n (whole x rest (now (list .entry)))) ⌝ }
     ensures went { λ r. ⌜ Went x r 1 0 ⌝ }
 {

@@ -6,7 +6,6 @@ use crate::moves::mark;
 ghost use mathlib.Core.Path.{_≡_};
 ghost use mathlib.Core.Bool.{not, _&&_};
 ghost use Prim.Native.Nat.{_≤_, _+_};
-ghost use lib.ListN.{length};
 ghost use lib.Dec.{eqb};
 ghost use Rattle.walk.specs.Run.{stateOf, searchOf, Sized, Sane};
 

@@ -58,9 +58,11 @@ returns c =
     let x = c .before .before .before .before .before .before .before .before .before .before .steps in
     let y = c .before .before .before .before .before .before .blocks2 in
     let u = c .before .before .steps2 in
-    let h = min-le-left (a .budget) (27 - a .w .place % 27) in
-    joined (a .n) (product (a .table .now) (a .n)) (a .end) (a .budget) (c .before .before .before .before .before .before .before .before .before .before .before .before .lead .result) (fresh (a .w) (a .list .now)) (stateOf (x .result) _) (stateOf (y .result) _) _
-    (omega arith) (x .ensures .1 .1 .0) (y .ensures .1 .1 .0) (x .ensures .0) (y .ensures .0) (u .ensures .0)
+    let h = min-le-left (a .budget) (27 - a .w .place % 27) in (
+      joined (a .n) (product (a .table .now) (a .n)) (a .end) (a .budget) (c .before .before .before .before .before .before .before .before .before .before .before .before .lead .result) (fresh (a .w) (a .list .now)) (stateOf (x .result) _) (stateOf (y .result) _) _
+          (omega arith) (x .ensures .1 .1 .0) (y .ensures .1 .1 .0) (x .ensures .0) (y .ensures .0) (u .ensures .0),
+      (omega (arith, x .ensures .1 .1 .0, y .ensures .1 .1 .0, u .ensures .1 .1 .0), u .ensures .1 .0 .place),
+    )
 
 pub run-spec : {M : Type 1} → statement M
 run-spec =

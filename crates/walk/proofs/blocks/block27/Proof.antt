@@ -1,9 +1,8 @@
 -- `walk::blocks::block27` meets its contract: the first move, then the moves of slots 0 to 2.
-use mathlib.Core.Path.{_≡_, refl, _∙_}
-use mathlib.Core.List.{List}
-use Prim.Native.Nat.{ℕ, _+_, _-_, _^_, _≤_, _<_}
+use mathlib.Core.Path.{refl, _∙_}
+use Prim.Native.Nat.{_-_, _≤_, _<_}
 use native.Mathlib.Omega.{arith}
-use lib.ListN.{length, set}
+use lib.ListN.{set}
 use Rattle.gray.specs.Positions.{lowestOf}
 use Rattle.gray.proofs.LowestLaw.{of-lt}
 use Rattle.walk.specs.Parts.{whole}

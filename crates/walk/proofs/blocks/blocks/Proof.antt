@@ -1,14 +1,12 @@
 -- `walk::blocks::blocks` meets its contract: each turn is 27 places of the search.
-use mathlib.Core.Path.{_≡_, refl, sym, ap, _∙_}
-use mathlib.Core.Bool.{Bool, true}
-use Prim.Native.Nat.{ℕ, _+_, _-_, _*_, _/_, _%_, _^_, _≤_, _<_}
+use mathlib.Core.Path.{_≡_, refl, ap}
+use Prim.Native.Nat.{ℕ, _-_}
 use native.Mathlib.Omega.{arith}
 use lib.ListN.{length, length-map}
 use borrow.Author.Needs.{needs}
 use borrow.Author.Tests.{not-false}
 use Rattle.walk.specs.Run.{stateOf, searchOf}
-use Rattle.walk.proofs.PartLaw.{apart}
-use Rattle.walk.proofs.BlocksLaw.{Kept, Fits, kept-none, fits, kept-more, kept-done}
+use Rattle.walk.proofs.BlocksLaw.{Kept, kept-none, fits, kept-more, kept-done}
 use Rattle.walk.proofs.blocks.blocks.Statement.{statement}
 use Rattle.walk.proofs.blocks.blocks.Tie as tie
 use Rattle.walk.proofs.blocks.blocks.Reads as reads

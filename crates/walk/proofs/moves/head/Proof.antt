@@ -1,18 +1,18 @@
 -- `walk::moves::head` meets its contract: by the number of positions, none, one or two.
-use mathlib.Core.Path.{_≡_, refl, sym, ap, _∙_}
+use mathlib.Core.Path.{_≡_, sym, ap, _∙_}
 use Prim.Native.Nat.{ℕ, _+_, _-_, _*_, _^_, _<_}
 use native.Mathlib.Nat.{mul-zero}
 use native.Mathlib.Omega.{arith}
 use Rattle.gray.specs.Positions.{lowestOf}
 use Rattle.gray.proofs.LowestLaw.{of-lt}
 use Rattle.walk.specs.Run.{product}
-use Rattle.walk.proofs.MoveLaw.{two, end-small, head-none, head-one, head-two, second, alone, above}
+use Rattle.walk.proofs.MoveLaw.{two, head-none, head-one, head-two, second, alone, above}
 use borrow.Author.Needs.{needs}
 use Rattle.walk.proofs.moves.head.Statement.{statement}
 use Rattle.walk.proofs.moves.head.Tie as tie
 use Rattle.walk.proofs.moves.head.Reads as reads
 use Rattle.walk.proofs.moves.head.Lts as lts
-use Rattle.gray.proofs.first_position.Reads as first-position-reads
+use Rattle.gray.proofs.split.Reads as split-reads
 use Rattle.tables.proofs.entry.Reads as entry-reads
 use Rattle.walk.proofs.moves.plus.Reads as plus-reads
 
@@ -41,34 +41,34 @@ returns-2 c =
     ((λ st hv ha hs l. head-one (a .n) (product (a .table .now) (a .n)) (a .place) (a .b) st _ h (q .1) z (sym hs) (v .0 ∙ rw (hv, hs)) (omega arith)), omega arith)
 
 -- src/moves.rt:109:38
-sub-first-position : tie.Need-sub-first-position
-sub-first-position c = search needs
+sub-split : tie.Need-sub-split
+sub-split c = search needs
 
 -- src/moves.rt:109:17
-first-position-requires : tie.Need-first-position-requires
-first-position-requires c κs = search needs
+split-requires : tie.Need-split-requires
+split-requires c κs = search needs
 
 -- src/moves.rt:109:13
 add-c : tie.Need-add-c
 add-c c =
-    let s = c .before .before .before .before in
+    let s = c .before .before .before .before .before in
     let a = s .args in
     let q = s .pre .1 in
-    let o : 1 < a .rest = omega (arith, c .before .if2, c .before .before .if1) in
+    let o : 1 < a .rest = omega (arith, c .before .before .if2, c .before .before .before .if1) in
     let u = second (a .place) (a .b) (a .rest) (q .2) o in
     let f : lowestOf 3 (a .place - 3 ^ a .b) < a .n = of-lt 3 two (a .n) (a .place - 3 ^ a .b) (u .0) (omega arith) in
-    omega (arith, c .first-position .ensures, s .pre .0 .small)
+    omega (arith, c .before .split .ensures .position, s .pre .0 .small)
 
 -- src/moves.rt:110:9
 entry-requires : tie.Need-entry-requires
 entry-requires c κs =
-    let s = c .before .before .before .before in
+    let s = c .before .before .before .before .before in
     let a = s .args in
     let q = s .pre .1 in
-    let o : 1 < a .rest = omega (arith, c .before .if2, c .before .before .if1) in
+    let o : 1 < a .rest = omega (arith, c .before .before .if2, c .before .before .before .if1) in
     let u = second (a .place) (a .b) (a .rest) (q .2) o in
     let f : lowestOf 3 (a .place - 3 ^ a .b) < a .n = of-lt 3 two (a .n) (a .place - 3 ^ a .b) (u .0) (omega arith) in
-    (s .pre .0 .small, omega arith, omega (arith, c .first-position .ensures), s .pre .0 .table)
+    (s .pre .0 .small, omega arith, omega (arith, c .before .split .ensures .position), s .pre .0 .table)
 
 -- src/moves.rt:111:9
 plus-requires-2 : tie.Need-plus-requires-2
@@ -81,18 +81,18 @@ plus-requires-3 c κs = search needs
 -- src/moves.rt:78:1
 returns-3 : tie.Need-returns-3
 returns-3 c =
-    let s = c .before .before .before .before .before .before .before .before .before in
+    let s = c .before .before .before .before .before .before .before .before .before .before in
     let a = s .args in
     let q = s .pre .1 in
-    let o : 1 < a .rest = omega (arith, c .before .before .before .before .before .before .if2, c .before .before .before .before .before .before .before .if1) in
+    let o : 1 < a .rest = omega (arith, c .before .before .before .before .before .before .before .if2, c .before .before .before .before .before .before .before .before .if1) in
     let u = second (a .place) (a .b) (a .rest) (q .2) o in
     let h : 0 < a .place = above (a .place) (a .b) (a .rest) (q .2) (omega arith) in
     let v = c .before .plus3 .ensures in
     let y = c .before .before .before .plus2 .ensures in
-    let g = c .before .before .before .before .before .first-position in (
+    let g = c .before .before .before .before .before .before .split in (
       (λ st hv ha hs l.
-          head-two (a .n) (product (a .table .now) (a .n)) (a .place) (a .b) (a .b + g .result) st _ h (q .1) (u .0)
-          (ap (λ (x : ℕ). a .b + x) (g .ensures) ∙ sym (u .1)) l
+          head-two (a .n) (product (a .table .now) (a .n)) (a .place) (a .b) (a .b + g .result .position) st _ h (q .1) (u .0)
+          (ap (λ (x : ℕ). a .b + x) (g .ensures .position) ∙ sym (u .1)) l
           (y .0 ∙ rw (hs, c .before .before .before .before .entry .ensures)) (v .0 ∙ rw hv) (omega arith)),
       omega arith,
     )
@@ -104,8 +104,8 @@ head-spec =
     returns
     plus-requires
     returns-2
-    sub-first-position
-    first-position-requires
+    sub-split
+    split-requires
     add-c
     entry-requires
     plus-requires-2

@@ -1,6 +1,5 @@
 -- `walk::steps::going` meets its contract.
 use borrow.Author.Tests.{eq-eqb, ne-eqb}
-use native.Mathlib.Omega.{arith}
 use Rattle.walk.proofs.steps.going.Statement.{statement}
 use Rattle.walk.proofs.steps.going.Tie as tie
 use Rattle.walk.proofs.steps.going.Reads as reads
