@@ -87,17 +87,17 @@ module _ (n m : ℕ) (t : List ℕ) where
       ∙ ap (λ (y : ℕ). y % 3) (diff-change 3 two (systemOf n t e) n b x h))
       ∙ sym (ap (λ (z : Bool). slotOr z (ofTrits m (λ e. changeOf 3 (systemOf n t e) n b x))) (lt-ltb b n h))
 
-  slot-none : (q b : ℕ) → n ≤ b → slotAt n m t q b ≡ none
+  pub slot-none : (q b : ℕ) → n ≤ b → slotAt n m t q b ≡ none
   unfolding slotAt
   slot-none q b h = ap (λ (z : Bool). slotOr z (ofTrits m (λ e. changeOf 3 (systemOf n t e) n b (pointDigit 3 (latest 3 b q - 1))))) (le-ltb b n h)
 
   -- all slots
-  slots-length : (q b k : ℕ) → length (slotsAt n m t q b k) ≡ k
+  pub slots-length : (q b k : ℕ) → length (slotsAt n m t q b k) ≡ k
   unfolding slotsAt
   slots-length q b zero = refl
   slots-length q b (suc k) = ap suc (slots-length q (suc b) k)
 
-  slots-at : (q b k i : ℕ) → i < k → getD (slotsAt n m t q b k) i none ≡ slotAt n m t q (b + i)
+  pub slots-at : (q b k i : ℕ) → i < k → getD (slotsAt n m t q b k) i none ≡ slotAt n m t q (b + i)
   unfolding slotsAt
   slots-at q b zero i h = absurd (omega arith)
   slots-at q b (suc k) zero h = ap (slotAt n m t q) (plain b)

@@ -50,17 +50,24 @@ searchVerdict n m t r b l =
     (refuse (not (fits n m t r)) refusal.Record (refuse (eqb b 0) refusal.Budget (refuse (eqb (length l) 0) refusal.List verdict.Done)))))
 
 -- the answer: what the call did, or the refusal alone
-abbrev pub answerFrom : Verdict → Report → Answer
-answerFrom verdict.Done r = Ran r
-answerFrom (verdict.Refused f) r = Refused f
+abbrev pub answerFrom : Verdict → Outcome → Answer
+answerFrom verdict.Done o = o .answer
+answerFrom (verdict.Refused f) o = Refused f
 
--- the record after: opened at the place to which the call came
-abbrev pub outcomeOf : ℕ → ℕ → List ℕ → Record → ℕ → List ℕ → Outcome
-outcomeOf n m t r b l =
+-- a call from place p that nothing refuses, with budget b and a list of c entries: its report, and the record opened at the place to which it came
+abbrev pub ranOf : ℕ → ℕ → List ℕ → ℕ → ℕ → ℕ → Outcome
+ranOf n m t p b c =
     record {
-      answer = answerFrom (searchVerdict n m t r b l) (reportOf (trailOf n m t) b (length l) (r .place .0));
-      «record» = after (searchVerdict n m t r b l) r (openedAt n m t (r .place .0 + pointsIn (trailOf n m t) b (length l) (r .place .0)));
+      answer = Ran (reportOf (trailOf n m t) b c p);
+      «record» = openedAt n m t (p + pointsIn (trailOf n m t) b c p);
     }
+
+-- a call, by the verdict: the record as it was where it is refused
+abbrev pub outcomeFrom : Verdict → Record → Outcome → Outcome
+outcomeFrom v r o = record { answer = answerFrom v o; «record» = after v r (o .«record») }
+
+abbrev pub outcomeOf : ℕ → ℕ → List ℕ → Record → ℕ → List ℕ → Outcome
+outcomeOf n m t r b l = outcomeFrom (searchVerdict n m t r b l) r (ranOf n m t (r .place .0) b (length l))
 
 -- the list after: the zeros from the front, the rest as it was
 abbrev pub listOf : ℕ → ℕ → List ℕ → Record → ℕ → List ℕ → List ℕ

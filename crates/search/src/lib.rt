@@ -11,8 +11,11 @@ ghost use Rattle.search.specs.Opened.{openOf, refusedOpen, noRecord};
 ghost use Rattle.refusals.specs.declared.Verdict.the-variants.{Done};
 ghost use Rattle.tables.specs.Answers.{checkedOf};
 
+mod calls;
 mod opening;
 mod records;
+
+pub use calls::search;
 
 // The walk of one table, between two calls. Slots from n to 19 are zero.
 pub struct Record {
