@@ -50,7 +50,7 @@ abbrev pub trailOf : (ℕ → Poly) → ℕ → ℕ → ℕ → Trail
 trailOf F n m e =
     record {
       end = e;
-      zeroAt = λ p. zeros m (λ e. valueOf (F e) n (pointDigit 3 p));
+      zeroAt = λ p. zeros m (λ k. valueOf (F k) n (pointDigit 3 p));
       entry = pointOf 3 n;
       cost = λ p. min 2 (length (positions 3 p));
     }

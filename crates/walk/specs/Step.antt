@@ -9,7 +9,7 @@ use Rattle.trits.specs.Words.{addOf, isZero}
 use Rattle.gray.specs.Numbers.{pointOf}
 use Rattle.walks.specs.Walk.{Walk}
 
--- the next place to examine; the value there before its move; the slot of each unknown; the additions done, the zeros found, and the list lent
+-- the next place to examine; the value at the place before it; the slot of each unknown; the additions done, the zeros found, and the list lent
 pub record State : Type 0 where
   pub place : ℕ
   pub value : Vector

@@ -47,7 +47,7 @@ fn tops(table: &[u64], n: usize) -> Top
     }
 }
 
-// 27 places, from one above 0 that 27 divides and whose first position is b.
+// 27 places, from one above 0 that 27 divides: 3 to its first position b, times rest. Of the slots from 3 on, others, only slot b moves.
 fn block27(
     table: &[u64],
     n: usize,
@@ -62,7 +62,7 @@ fn block27(
     requires { ⌜ top ≡ topOf (product (now table) n) ⌝ }
     requires { ⌜ (0 < x .place) × (x .place % 27 ≡ 0) × (x .place + 27 ≤ 3 ^ n) × (b ≡ lowestOf 3 (x .place)) × (x .place ≡ 3 ^ b * rest) ⌝ }
     requires { ⌜ (x .found + 27 ≤ length (now list)) × (x .additions + 54 < 2 ^ 64) ⌝ }
-    ensures state { λ r. ⌜ ((rest : List Vector) → getD rest (b - 3) none ≡ slot → b - 3 < length rest → whole (r .part) (set rest (b - 3) (r .slot)) (now (list .exit)) ≡ iterate 3 (walkOf n (product (now (table .entry)) n)) 27 (whole x rest (now (list .entry)))) ⌝ }
+    ensures state { λ r. ⌜ ((others : List Vector) → getD others (b - 3) none ≡ slot → b - 3 < length others → whole (r .part) (set others (b - 3) (r .slot)) (now (list .exit)) ≡ iterate 3 (walkOf n (product (now (table .entry)) n)) 27 (whole x others (now (list .entry)))) ⌝ }
 {
     let place = x.place;
     let value = x.value;

@@ -10,7 +10,7 @@ mod moves;
 mod parts;
 mod steps;
 
-// Where a walk stands: the next place to examine, the value before its move, and the slot of each unknown.
+// Where a walk stands: the next place to examine, the value at the place before it, and the slot of each unknown.
 pub struct Walker {
     pub place: u64,
     pub value: Vector,
