@@ -9,3 +9,4 @@ pub mod SystemLaw
 pub mod DemandLaw
 pub mod Starred
 pub mod OpenLaw
+pub mod RanLaw

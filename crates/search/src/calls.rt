@@ -1,11 +1,15 @@
 // One call of the search, step by step: what is judged after the table, and the report of a walk that ran.
+use crate::Answer;
+use crate::Outcome;
+use crate::Record;
 use crate::opening::opened;
 use crate::records::same_record;
-use crate::{Answer, Outcome, Record};
 use gray::Place;
 use refusals::Refusal;
-use walk::{Ran, Walker};
-use walks::{Report, Stop};
+use walk::Ran;
+use walk::Walker;
+use walks::Report;
+use walks::Stop;
 ghost use mathlib.Core.Path.{_≡_};
 ghost use mathlib.Core.Bool.{true};
 ghost use Prim.Native.Nat.{_≤_, _+_, _^_};
@@ -53,14 +57,12 @@ fn reported(n: u64, m: u64, from: u64, end: u64, len: usize, t: Ran) -> Outcome
     let slots = w.slots;
     let stop = stop_of(at, end, t.found, len);
     Outcome {
-        answer: Answer::Ran(
-            Report {
-                stop,
-                points: at - from,
-                additions: t.additions,
-                found: t.found as u64,
-            },
-        ),
+        answer: Answer::Ran(Report {
+            stop,
+            points: at - from,
+            additions: t.additions,
+            found: t.found as u64,
+        }),
         record: Record {
             n,
             m,
@@ -102,7 +104,14 @@ fn turned_away(f: Refusal, r: Record) -> Outcome
 }
 
 // The table was checked: record, budget and list are left to judge.
-fn search_checked(n: u64, m: u64, table: &[u64], r: Record, budget: u64, list: &mut [u64]) -> Outcome
+fn search_checked(
+    n: u64,
+    m: u64,
+    table: &[u64],
+    r: Record,
+    budget: u64,
+    list: &mut [u64],
+) -> Outcome
     requires { ⌜ checkedOf n m (now table) ≡ Done ⌝ }
     ensures { λ o. ⌜ (o ≡ outcomeOf n m (now (table .entry)) r budget (now (list .entry)))
         × (now (list .exit) ≡ listOf n m (now (table .entry)) r budget (now (list .entry))) ⌝ }

@@ -36,10 +36,11 @@ value-at-requires c κs =
 -- src/opening.rt:132:9
 slots-requires : tie.Need-slots-requires
 slots-requires c κs =
-    let s = c .before .before .before .before .before .before .before .before .before .before .before .before in
-    (within (s .args .n) (s .args .m) (s .args .table .now) (s .pre .0) .most,
-    omega (arith, c .before .before .before .before .before .before .before .before .before .latest-place .ensures, s .pre .1, power-small (s .args .n) (s .args .m) (s .args .table .now) (s .pre .0)),
-    c .before .before .before .before .before .before .coefficients .kept .1 .1 .1 .0 ∙ s .pre .2)
+    let s = c .before .before .before .before .before .before .before .before .before .before .before .before in (
+      within (s .args .n) (s .args .m) (s .args .table .now) (s .pre .0) .most,
+      omega (arith, c .before .before .before .before .before .before .before .before .before .latest-place .ensures, s .pre .1, power-small (s .args .n) (s .args .m) (s .args .table .now) (s .pre .0)),
+      c .before .before .before .before .before .before .coefficients .kept .1 .1 .1 .0 ∙ s .pre .2,
+    )
 
 -- src/opening.rt:123:1
 same-length : tie.Need-same-length
