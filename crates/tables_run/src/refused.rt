@@ -1,7 +1,7 @@
 // Refusals, alone and with others: each case is a set of faults, and the lowest number is to be given, with nothing lent altered.
 use crate::plain::Tally;
+use crate::plain::counted;
 use crate::plain::same_words;
-use crate::plain::tally;
 use gray::Point;
 use refusals::code;
 use refusals::number;
@@ -72,10 +72,20 @@ fn table_of(faults: u64, low: bool) -> [u64; 13] {
     t
 }
 
-// Whether the answer is the lowest number, and what was lent is written without faults only.
+// Whether the answer is the lowest number, and on a fault what was lent is as it was.
 fn right(answer: u64, faults: u64, lent: &[u64]) -> bool {
-    let untouched = [7u64; 13];
-    answer == lowest(faults) && (faults == 0 || same_words(lent, &untouched, 13))
+    if answer != lowest(faults) {
+        return false;
+    }
+    if faults == 0 {
+        return true;
+    }
+    same_words(lent, &[7u64; 13], 13)
+}
+
+// The faults without that of the table to be written.
+fn reading(faults: u64) -> u64 {
+    faults / 16 * 16 + faults % 8
 }
 
 // One set of faults in each operation.
@@ -90,16 +100,15 @@ fn case(faults: u64, low: bool, t: Tally) -> Tally {
     let five = faults % 32;
     let there = code(tables::differences(n, m, &table[..read], &mut a[..write]));
     let back = code(tables::coefficients(n, m, &table[..read], &mut b[..write]));
-    let mut r = tally(t, right(there, five, &a));
-    r = tally(r, right(back, five, &b));
-    let alone = five - five / 8 % 2 * 8;
-    r = tally(
+    let mut r = counted(t, right(there, five, &a));
+    r = counted(r, right(back, five, &b));
+    r = counted(
         r,
-        code(tables::check(n, m, &table[..read])) == lowest(alone),
+        code(tables::check(n, m, &table[..read])) == lowest(reading(five)),
     );
     let x: u64 = if has(faults, 5) { 9 } else { 8 };
     let value = evaluated(tables::evaluate(n, m, &table[..read], Point(x)));
-    tally(r, value == lowest(faults - faults / 8 % 2 * 8))
+    counted(r, value == lowest(reading(faults)))
 }
 
 // One set of faults in packing: sizes and lengths.
@@ -114,7 +123,7 @@ fn packing(faults: u64, low: bool, t: Tally) -> Tally {
         &rows[..read],
         &mut a[..write],
     ));
-    tally(t, right(answer, faults % 16, &a))
+    counted(t, right(answer, faults % 16, &a))
 }
 
 pub fn all() -> Tally {
