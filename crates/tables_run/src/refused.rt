@@ -73,7 +73,7 @@ fn table_of(faults: u64, low: bool) -> [u64; 13] {
 }
 
 // Whether the answer is the lowest number, and on a fault what was lent is as it was.
-fn right(answer: u64, faults: u64, lent: &[u64]) -> bool {
+fn right(answer: u64, faults: u64, lent: &[u64; 13]) -> bool {
     if answer != lowest(faults) {
         return false;
     }
@@ -88,41 +88,86 @@ fn reading(faults: u64) -> u64 {
     faults / 16 * 16 + faults % 8
 }
 
+// The number that each operation gives, on the first words of what it is lent.
+fn differences(n: u64, m: u64, from: &[u64], read: usize, to: &mut [u64], write: usize) -> u64 {
+    if read > from.len() {
+        return 99;
+    }
+    if write > to.len() {
+        return 99;
+    }
+    code(tables::differences(n, m, &from[..read], &mut to[..write]))
+}
+
+fn coefficients(n: u64, m: u64, from: &[u64], read: usize, to: &mut [u64], write: usize) -> u64 {
+    if read > from.len() {
+        return 99;
+    }
+    if write > to.len() {
+        return 99;
+    }
+    code(tables::coefficients(n, m, &from[..read], &mut to[..write]))
+}
+
+fn packed(n: u64, m: u64, rows: &[i8], read: usize, to: &mut [u64], write: usize) -> u64 {
+    if read > rows.len() {
+        return 99;
+    }
+    if write > to.len() {
+        return 99;
+    }
+    code(tables::pack(n, m, &rows[..read], &mut to[..write]))
+}
+
+fn checked(n: u64, m: u64, table: &[u64], read: usize) -> u64 {
+    if read > table.len() {
+        return 99;
+    }
+    code(tables::check(n, m, &table[..read]))
+}
+
+fn valued(n: u64, m: u64, table: &[u64], read: usize, x: u64) -> u64 {
+    if read > table.len() {
+        return 99;
+    }
+    evaluated(tables::evaluate(n, m, &table[..read], Point(x)))
+}
+
+// How many words are lent: one too few or too many where that is the fault.
+fn words(faults: u64, b: u64, right: usize, wrong: usize) -> usize {
+    if has(faults, b) { wrong } else { right }
+}
+
 // One set of faults in each operation.
 fn case(faults: u64, low: bool, t: Tally) -> Tally {
     let n = unknowns(faults, low);
     let m = equations(faults, low);
     let table = table_of(faults, low);
-    let read: usize = if has(faults, 2) { 11 } else { 12 };
-    let write: usize = if has(faults, 3) { 13 } else { 12 };
+    let read = words(faults, 2, 12, 11);
+    let write = words(faults, 3, 12, 13);
     let mut a = [7u64; 13];
     let mut b = [7u64; 13];
     let five = faults % 32;
-    let there = code(tables::differences(n, m, &table[..read], &mut a[..write]));
-    let back = code(tables::coefficients(n, m, &table[..read], &mut b[..write]));
-    let mut r = counted(t, right(there, five, &a));
-    r = counted(r, right(back, five, &b));
-    r = counted(
-        r,
-        code(tables::check(n, m, &table[..read])) == lowest(reading(five)),
-    );
+    let there = differences(n, m, &table, read, &mut a, write);
+    let back = coefficients(n, m, &table, read, &mut b, write);
+    let judged = checked(n, m, &table, read);
     let x: u64 = if has(faults, 5) { 9 } else { 8 };
-    let value = evaluated(tables::evaluate(n, m, &table[..read], Point(x)));
-    counted(r, value == lowest(reading(faults)))
+    let value = valued(n, m, &table, read, x);
+    let r = counted(t, right(there, five, &a));
+    let s = counted(r, right(back, five, &b));
+    let u = counted(s, judged == lowest(reading(five)));
+    counted(u, value == lowest(reading(faults)))
 }
 
 // One set of faults in packing: sizes and lengths.
 fn packing(faults: u64, low: bool, t: Tally) -> Tally {
     let rows = [0i8; 19];
-    let read: usize = if has(faults, 2) { 19 } else { 18 };
-    let write: usize = if has(faults, 3) { 11 } else { 12 };
+    let n = unknowns(faults, low);
+    let m = equations(faults, low);
+    let read = words(faults, 2, 18, 19);
+    let write = words(faults, 3, 12, 11);
     let mut a = [7u64; 13];
-    let answer = code(tables::pack(
-        unknowns(faults, low),
-        equations(faults, low),
-        &rows[..read],
-        &mut a[..write],
-    ));
+    let answer = packed(n, m, &rows, read, &mut a, write);
     counted(t, right(answer, faults % 16, &a))
 }
 

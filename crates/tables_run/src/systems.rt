@@ -13,9 +13,6 @@ use refusals::code;
 use tables::Evaluated;
 use trits::Vector;
 use trits::trit_at;
-ghost use mathlib.Core.Path.{_≡_};
-ghost use Prim.Native.Nat.{_<_, _≤_};
-ghost use lib.ListN.{length};
 
 const NUMBERS: usize = 14784;
 
@@ -50,12 +47,10 @@ fn coefficient(c: u64) -> bool {
 }
 
 // Random numbers into the rows, and their remainders beside them.
-fn fill(rows: &mut [i8], plain: &mut [u64], seed: u64)
-    requires { ⌜ length (now rows) ≡ length (now plain) ⌝ }
-{
+fn fill(rows: &mut [i8; NUMBERS], plain: &mut [u64; NUMBERS], seed: u64) {
     let mut x = seed;
     let mut k: usize = 0;
-    while k < rows.len() {
+    while k < NUMBERS {
         x = stir(x);
         rows[k] = signed(x >> 20);
         plain[k] = plain_remainder(x >> 20);
@@ -82,38 +77,45 @@ fn wrong_values(n: u64, m: u64, plain: &[u64], table: &[u64], entries: usize, x:
     wrong
 }
 
-// Whether one table comes back from its differences.
-fn there_and_back(n: u64, m: u64, table: &[u64], words: usize) -> bool
-    requires { ⌜ words ≤ 462 ⌝ }
-{
-    let mut there = [7u64; WORDS];
-    let mut back = [7u64; WORDS];
-    let a = tables::differences(n, m, table, &mut there[..words]);
-    let b = tables::coefficients(n, m, &there[..words], &mut back[..words]);
-    if code(a) != 0 {
+// The first words of one table turned into another, as differences or back: whether it is not refused.
+fn turned(n: u64, m: u64, from: &[u64], to: &mut [u64], words: usize, back: bool) -> bool {
+    if words > from.len() {
         return false;
     }
-    if code(b) != 0 {
+    if words > to.len() {
+        return false;
+    }
+    if back {
+        return code(tables::coefficients(n, m, &from[..words], &mut to[..words])) == 0;
+    }
+    code(tables::differences(n, m, &from[..words], &mut to[..words])) == 0
+}
+
+// Whether one table comes back from its differences, or as a table of differences from its coefficients.
+fn comes_back(n: u64, m: u64, table: &[u64; WORDS], words: usize, first: bool) -> bool {
+    let mut there = [7u64; WORDS];
+    let mut back = [7u64; WORDS];
+    if !turned(n, m, table, &mut there, words, first) {
+        return false;
+    }
+    if !turned(n, m, &there, &mut back, words, !first) {
         return false;
     }
     same_words(table, &back, words)
 }
 
-// Whether one table, read as differences, comes back from its coefficients.
-fn back_and_there(n: u64, m: u64, table: &[u64], words: usize) -> bool
-    requires { ⌜ words ≤ 462 ⌝ }
-{
-    let mut back = [7u64; WORDS];
-    let mut there = [7u64; WORDS];
-    let a = tables::coefficients(n, m, table, &mut back[..words]);
-    let b = tables::differences(n, m, &back[..words], &mut there[..words]);
-    if code(a) != 0 {
+// The rows packed, and judged: whether neither is refused.
+fn packed(n: u64, m: u64, rows: &[i8], numbers: usize, table: &mut [u64], words: usize) -> bool {
+    if numbers > rows.len() {
         return false;
     }
-    if code(b) != 0 {
+    if words > table.len() {
         return false;
     }
-    same_words(table, &there, words)
+    if code(tables::pack(n, m, &rows[..numbers], &mut table[..words])) != 0 {
+        return false;
+    }
+    code(tables::check(n, m, &table[..words])) == 0
 }
 
 // One packed table, at `points` points from 0 on, `by` apart.
@@ -122,11 +124,11 @@ fn at_points(
     m: u64,
     plain: &[u64],
     table: &[u64],
-    entries: usize,
     points: u64,
     by: u64,
     t: Tally,
 ) -> Tally {
+    let entries = table.len() / 2;
     let mut r = t;
     let mut x: u64 = 0;
     let mut k: u64 = 0;
@@ -138,24 +140,83 @@ fn at_points(
     r
 }
 
+// The same, of the first words of a table.
+fn evaluated(
+    n: u64,
+    m: u64,
+    plain: &[u64],
+    table: &[u64],
+    words: usize,
+    points: u64,
+    by: u64,
+    t: Tally,
+) -> Tally {
+    if words > table.len() {
+        return counted(t, false);
+    }
+    at_points(n, m, plain, &table[..words], points, by, t)
+}
+
+// Both on whole arrays.
+fn packed_in(
+    n: u64,
+    m: u64,
+    rows: &[i8; NUMBERS],
+    numbers: usize,
+    table: &mut [u64; WORDS],
+    words: usize,
+) -> bool {
+    packed(n, m, rows, numbers, table, words)
+}
+
+fn evaluated_in(
+    n: u64,
+    m: u64,
+    plain: &[u64; NUMBERS],
+    table: &[u64; WORDS],
+    words: usize,
+    points: u64,
+    by: u64,
+    t: Tally,
+) -> Tally {
+    evaluated(n, m, plain, table, words, points, by, t)
+}
+
 // One random system: packed, turned both ways, and evaluated.
-fn system(n: u64, m: u64, seed: u64, points: u64, by: u64, t: Tally) -> Tally
-    requires { ⌜ (n < 21) × (m < 65) ⌝ }
-{
+fn system(n: u64, m: u64, seed: u64, points: u64, by: u64, t: Tally) -> Tally {
     let mut rows = [0i8; NUMBERS];
     let mut plain = [0u64; NUMBERS];
     let mut table = [7u64; WORDS];
     fill(&mut rows, &mut plain, seed);
-    let entries = 1 + (n as usize) + (n as usize) * (n as usize + 1) / 2;
-    let numbers = (m as usize) * entries;
-    let words = 2 * entries;
-    let packed = tables::pack(n, m, &rows[..numbers], &mut table[..words]);
-    let judged = tables::check(n, m, &table[..words]);
-    let a = counted(t, code(packed) == 0);
-    let b = counted(a, code(judged) == 0);
-    let c = counted(b, there_and_back(n, m, &table[..words], words));
-    let d = counted(c, back_and_there(n, m, &table[..words], words));
-    at_points(n, m, &plain, &table[..words], entries, points, by, d)
+    let entries = monomials(n as usize);
+    let numbers = times(m as usize, entries);
+    let words = times(2, entries);
+    let a = counted(t, packed_in(n, m, &rows, numbers, &mut table, words));
+    let b = counted(a, comes_back(n, m, &table, words, false));
+    let c = counted(b, comes_back(n, m, &table, words, true));
+    evaluated_in(n, m, &plain, &table, words, points, by, c)
+}
+
+// A product by sums.
+fn times(a: usize, b: usize) -> usize {
+    let mut r: usize = 0;
+    let mut k: usize = 0;
+    while k < a {
+        r = ahead(r, b);
+        k += 1;
+    }
+    r
+}
+
+// How many monomials there are: 1, the unknowns, and n, n - 1, .., 1 products.
+fn monomials(n: usize) -> usize {
+    let mut r = ahead(1, n);
+    let mut k: usize = 0;
+    while k < n {
+        r = ahead(r, n - k);
+        k += 1;
+    }
+    r
 }
 
 // n = 1 to 6, each with 1, 3, 7, 15, 31, 63 and 64 equations.
@@ -172,16 +233,14 @@ pub fn small() -> Tally {
     sizes(6, 81, 9, e)
 }
 
-fn sizes(n: u64, points: u64, by: u64, t: Tally) -> Tally
-    requires { ⌜ n < 21 ⌝ }
-{
+fn sizes(n: u64, points: u64, by: u64, t: Tally) -> Tally {
     let a = system(n, 1, n, points, by, t);
-    let b = system(n, 3, n + 100, points, by, a);
-    let c = system(n, 7, n + 200, points, by, b);
-    let d = system(n, 15, n + 300, points, by, c);
-    let e = system(n, 31, n + 400, points, by, d);
-    let f = system(n, 63, n + 500, points, by, e);
-    system(n, 64, n + 600, points, by, f)
+    let b = system(n, 3, more(n, 100), points, by, a);
+    let c = system(n, 7, more(n, 200), points, by, b);
+    let d = system(n, 15, more(n, 300), points, by, c);
+    let e = system(n, 31, more(n, 400), points, by, d);
+    let f = system(n, 63, more(n, 500), points, by, e);
+    system(n, 64, more(n, 600), points, by, f)
 }
 
 // n = 20 and 64 equations, at 20 points from 0 to the end.

@@ -13,6 +13,7 @@ use Rattle.tables_run.proofs.plain.ahead.Reads as ahead-reads
 use Rattle.tables_run.proofs.plain.more.Reads as more-reads
 use Rattle.tables_run.proofs.plain.plain_digit.Reads as plain-digit-reads
 use Rattle.tables_run.proofs.plain.word.Reads as word-reads
+use Rattle.tables_run.proofs.Small.{small2}
 
 abbrev Inv-loop : tie.InvT-loop
 Inv-loop rows k n x value₀ i₀ value i = i ≤ n
@@ -33,7 +34,7 @@ plain-digit-requires : tie.Need-plain-digit-requires Inv-loop μ-loop
 plain-digit-requires c κs = search needs
 
 mul-more : tie.Need-mul-more Inv-loop μ-loop
-mul-more c = ?
+mul-more c = omega (arith, small2 (c .before .word .result) _ (c .plain-digit .ensures))
 
 more-requires : tie.Need-more-requires Inv-loop μ-loop
 more-requires c κs = search needs

@@ -13,6 +13,7 @@ use Rattle.tables_run.proofs.plain.ahead.Reads as ahead-reads
 use Rattle.tables_run.proofs.plain.more.Reads as more-reads
 use Rattle.tables_run.proofs.plain.plain_digit.Reads as plain-digit-reads
 use Rattle.tables_run.proofs.plain.word.Reads as word-reads
+use Rattle.tables_run.proofs.Small.{small, small3}
 
 abbrev Inv-loop : tie.InvT-loop
 Inv-loop rows k n i x value₀ j₀ value j = i ≤ j
@@ -30,7 +31,7 @@ plain-digit-requires-2 : tie.Need-plain-digit-requires-2 Inv-loop μ-loop
 plain-digit-requires-2 c κs = search needs
 
 mul-d : tie.Need-mul-d Inv-loop μ-loop
-mul-d c = ?
+mul-d c = omega (arith, small _ _ (c .before .plain-digit .ensures) (c .plain-digit2 .ensures))
 
 sub-ahead : tie.Need-sub-ahead Inv-loop μ-loop
 sub-ahead c = search needs
@@ -42,7 +43,7 @@ word-requires : tie.Need-word-requires Inv-loop μ-loop
 word-requires c κs = search needs
 
 mul-more : tie.Need-mul-more Inv-loop μ-loop
-mul-more c = ?
+mul-more c = omega (arith, small3 (c .word .result) _ _ (c .before .before .before .plain-digit .ensures) (c .before .before .plain-digit2 .ensures))
 
 more-requires : tie.Need-more-requires Inv-loop μ-loop
 more-requires c κs = search needs

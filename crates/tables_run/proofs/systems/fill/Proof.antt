@@ -1,8 +1,8 @@
 -- `tables_run::systems::fill` is safe and ends.
 use mathlib.Core.Path.{_≡_}
-use Prim.Native.Nat.{_+_, _-_, _≤_, _<_}
+use Prim.Native.Nat.{_+_, _-_, _*_, _%_, _≤_, _<_}
 use native.Mathlib.Omega.{arith}
-use lib.ListN.{length}
+use lib.ListN.{length, length-take}
 use borrow.Author.Needs.{needs}
 use Rattle.tables_run.proofs.systems.fill.Statement.{statement}
 use Rattle.tables_run.proofs.systems.fill.Tie as tie
@@ -13,10 +13,10 @@ use Rattle.tables_run.proofs.plain.signed.Reads as signed-reads
 use Rattle.tables_run.proofs.plain.stir.Reads as stir-reads
 
 abbrev Inv-loop : tie.InvT-loop
-Inv-loop rows₀ plain₀ seed x₀ k₀ rows plain x k = (k ≤ length rows) × (length rows ≡ length rows₀) × (length plain ≡ length plain₀) × (length rows₀ ≡ length plain₀)
+Inv-loop rows₀ plain₀ seed x₀ k₀ rows plain x k = k ≤ 14784
 
 abbrev μ-loop : tie.MeasureT-loop
-μ-loop rows₀ plain₀ seed x₀ k₀ rows plain x k = length rows - k
+μ-loop rows₀ plain₀ seed x₀ k₀ rows plain x k = 14784 - k
 
 loop-holds : tie.Need-loop-holds Inv-loop μ-loop
 loop-holds c = search needs
@@ -27,8 +27,8 @@ stir-requires c κs = search needs
 signed-requires : tie.Need-signed-requires Inv-loop μ-loop
 signed-requires c κs = search needs
 
-slice-set-from-rows : tie.Need-slice-set-from-rows Inv-loop μ-loop
-slice-set-from-rows c = search needs
+element-set-from-rows : tie.Need-element-set-from-rows Inv-loop μ-loop
+element-set-from-rows c = search needs
 
 plain-remainder-requires : tie.Need-plain-remainder-requires Inv-loop μ-loop
 plain-remainder-requires c κs = search needs
@@ -36,8 +36,8 @@ plain-remainder-requires c κs = search needs
 mul-plain : tie.Need-mul-plain Inv-loop μ-loop
 mul-plain c = search needs
 
-slice-write-plain : tie.Need-slice-write-plain Inv-loop μ-loop
-slice-write-plain c = search needs
+element-write-plain : tie.Need-element-write-plain Inv-loop μ-loop
+element-write-plain c = search needs
 
 add-k : tie.Need-add-k Inv-loop μ-loop
 add-k c = search needs
@@ -47,12 +47,6 @@ loop-less c = search needs
 
 loop-again : tie.Need-loop-again Inv-loop μ-loop
 loop-again c = search needs
-
-same-length : tie.Need-same-length Inv-loop μ-loop
-same-length c = search needs
-
-same-length-2 : tie.Need-same-length-2 Inv-loop μ-loop
-same-length-2 c = search needs
 
 returns : tie.Need-returns Inv-loop μ-loop
 returns c = search needs
@@ -66,13 +60,11 @@ fill-spec =
     loop-holds
     stir-requires
     signed-requires
-    slice-set-from-rows
+    element-set-from-rows
     plain-remainder-requires
     mul-plain
-    slice-write-plain
+    element-write-plain
     add-k
     loop-less
     loop-again
-    same-length
-    same-length-2
     returns)
