@@ -10,7 +10,9 @@ mod monomials;
 mod rows;
 
 pub use checks::check;
+pub use evaluation::digits;
 pub use evaluation::evaluate;
+pub use evaluation::value_at;
 pub use formulas::coefficients;
 pub use formulas::differences;
 pub use monomials::entry;
