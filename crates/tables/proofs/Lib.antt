@@ -10,3 +10,4 @@ pub mod WriteLaw
 pub mod TurnLaw
 pub mod EvaluateLaw
 pub mod PackLaw
+pub mod Cases

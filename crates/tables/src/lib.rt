@@ -10,6 +10,7 @@ mod monomials;
 mod rows;
 
 pub use checks::check;
+pub use evaluation::digits;
 pub use evaluation::evaluate;
 pub use evaluation::value_at;
 pub use formulas::coefficients;
