@@ -1,2 +1,5 @@
 pub mod Positions
 pub mod Numbers
+pub mod Parts
+pub mod Balanced
+pub mod Answers

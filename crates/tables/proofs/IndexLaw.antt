@@ -55,3 +55,11 @@ product-le a b h k = omega (arith, mul-le-mul-right b h, mul-le-mul-left 20 k)
 -- no difference of the code falls below 0
 pub half-le : (n i : ℕ) → i < n → i * (i + 1) / 2 ≤ i * n
 half-le n i h = omega (arith, twice-row n i (omega arith), row-ge n i (omega arith))
+
+-- the count at 20 is the largest that the code meets
+pub count-le : (n : ℕ) → n ≤ 20 → countOf n ≤ 231
+unfolding countOf
+count-le n h = omega (arith, mul-le-mul-left n (below n h), mul-le-mul-right 19 h)
+  where
+    below : (n : ℕ) → n ≤ 20 → n - 1 ≤ 19
+    below n h = omega arith

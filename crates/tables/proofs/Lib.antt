@@ -1,1 +1,13 @@
 pub mod IndexLaw
+pub mod MonomialLaw
+pub mod WordLaw
+pub mod AgreeLaw
+pub mod RoundLaw
+pub mod EntryLaw
+pub mod AnswerLaw
+pub mod VectorLaw
+pub mod WriteLaw
+pub mod TurnLaw
+pub mod EvaluateLaw
+pub mod PackLaw
+pub mod Cases

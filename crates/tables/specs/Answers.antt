@@ -1,18 +1,27 @@
 -- What each operation on tables answers, and what it leaves in the table that it was lent. Refusals in document 01's order.
+use mathlib.Core.Path.{_≡_}
 use mathlib.Core.Bool.{Bool, true, false, not}
 use mathlib.Core.List.{List}
-use Prim.Native.Nat.{ℕ, _*_, _^_}
+use Prim.Native.Nat.{ℕ, _*_, _^_, _≤_}
 use lib.Dec.{eqb, ltb, leb}
 use lib.IntN.{ℤ}
 use lib.ListN.{length}
-use Rattle.refusals.specs.declared.Refusal.the-variants.{Length, Pair, Range}
+use Rattle.refusals.specs.declared.Refusal.the-variants.{Size, Length, Pair, Range}
 use Rattle.refusals.specs.declared.Verdict.{Verdict}
 use Rattle.refusals.specs.declared.Verdict.the-variants.{Done, Refused}
-use Rattle.refusals.specs.Refusal.{refuse, sized, after}
+use Rattle.refusals.specs.Refusal.{numberOf, refuse, sized, after}
 use Rattle.tables.specs.declared.Evaluated.{Evaluated}
 use Rattle.tables.specs.declared.Evaluated.the-variants as evaluated
+use Rattle.trits.specs.declared.Vector.{Vector}
 use Rattle.tables.specs.Monomials.{countOf}
 use Rattle.tables.specs.Words.{legalFront, packed, differencesOf, coefficientsOf, valuesAt}
+
+-- what the test of n and m says: they are in their ranges, or refusal 1 comes before all others
+pub record SizeTest (n m : ℕ) (r : Bool) : Type 0 where
+  pub unknowns : r ≡ true → (1 ≤ n) × (n ≤ 20)
+  pub equations : r ≡ true → (1 ≤ m) × (m ≤ 64)
+  pub passed : r ≡ true → (v : Verdict) → sized n m v ≡ v
+  pub refused : r ≡ false → (v : Verdict) → sized n m v ≡ Refused Size
 
 -- refusal 2: a table of n unknowns is not of its exact length
 abbrev pub long : ℕ → List ℕ → Verdict → Verdict
@@ -46,3 +55,16 @@ coefficientsAfter n m t c = after (copyVerdict n m t c) c (coefficientsOf n m t)
 -- evaluation at a point
 abbrev pub evaluateVerdict : ℕ → ℕ → List ℕ → ℕ → Verdict
 evaluateVerdict n m c x = sized n m (long n c (paired n m c (refuse (leb (3 ^ n) x) Range Done)))
+
+-- the value where nothing is refused
+abbrev pub valued : Verdict → Vector → Evaluated
+valued Done v = evaluated.Value v
+valued (Refused r) v = evaluated.Refused r
+
+abbrev pub evaluateOf : ℕ → ℕ → List ℕ → ℕ → Evaluated
+evaluateOf n m c x = valued (evaluateVerdict n m c x) (valuesAt n m c x)
+
+-- document 01's number of each answer: 0 for a value
+abbrev pub evaluatedCode : Evaluated → ℕ
+evaluatedCode (evaluated.Value v) = 0
+evaluatedCode (evaluated.Refused r) = numberOf r

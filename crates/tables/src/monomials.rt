@@ -1,10 +1,18 @@
-// Where a monomial stands in a table.
+// Where a monomial stands in a table, and a table's entries.
 use trits::Vector;
 ghost use mathlib.Core.Path.{_≡_};
 ghost use Prim.Native.Nat.{_+_, _*_, _<_, _≤_};
 ghost use lib.ListN.{length};
 ghost use Rattle.tables.specs.Monomials.{countOf, indexOf};
-ghost use Rattle.tables.specs.Words.{entry};
+ghost use Rattle.tables.specs.Words.{entry, putAt};
+
+// How many monomials there are in n unknowns.
+pub fn count(n: usize) -> usize
+    requires { ⌜ (1 ≤ n) × (n ≤ 20) ⌝ }
+    ensures { λ r. ⌜ (r ≡ countOf n) × (r ≤ 231) ⌝ }
+{
+    1 + 2 * n + n * (n - 1) / 2
+}
 
 // The number of the product of unknowns i and j.
 pub fn index(n: usize, i: usize, j: usize) -> usize
@@ -23,6 +31,16 @@ pub fn vector(table: &[u64], k: usize) -> Vector
     let high = table[at];
     let low = table[at + 1];
     Vector { high, low }
+}
+
+// A table's entry k becomes v.
+pub fn put_entry(table: &mut [u64], k: usize, v: Vector)
+    requires { ⌜ 2 * k + 1 < length (now table) ⌝ }
+    ensures { λ _. ⌜ now (table .exit) ≡ putAt (now (table .entry)) k v ⌝ }
+{
+    let at = 2 * k;
+    table[at] = v.high;
+    table[at + 1] = v.low;
 }
 
 // A table's entry of the product of unknowns i and j.

@@ -1,0 +1,44 @@
+-- `gray::map::point_of` meets its contract: the verdict of `convertible`, and the value of `point_at`.
+use mathlib.Core.Path.{refl, sym, _∙_}
+use Rattle.refusals.specs.declared.Verdict.the-variants as verdict
+use Rattle.gray.proofs.AnswerLaw.{done-so, point-meets}
+use borrow.Author.Needs.{needs}
+use Rattle.gray.proofs.map.point_of.Statement.{statement}
+use Rattle.gray.proofs.map.point_of.Tie as tie
+
+-- src/map.rt:73:9
+convertible-requires : tie.Need-convertible-requires
+convertible-requires c κs = search needs
+
+-- src/map.rt:75:26
+enum-known-verdict : tie.Need-enum-known-verdict
+enum-known-verdict c = search needs
+
+-- src/map.rt:77:17
+enum-told : tie.Need-enum-told
+enum-told c = search needs
+
+-- src/map.rt:77:17
+point-at-requires : tie.Need-point-at-requires
+point-at-requires c κs =
+    let a = c .before .before .before .args in
+    done-so (a .n) (a .p .0) (sym (c .before .before .convertible .ensures) ∙ c .enum-told .given .1) .1
+
+-- src/map.rt:69:1
+returns : tie.Need-returns
+returns c = point-meets (verdict.Refused _) _ _ _ (sym (c .before .before .before .convertible .ensures) ∙ c .before .verdict .given .1) refl
+
+-- src/map.rt:69:1
+returns-2 : tie.Need-returns-2
+returns-2 c = point-meets verdict.Done _ _ _ (sym (c .before .before .before .convertible .ensures) ∙ c .before .enum-told .given .1) (c .point-at .ensures)
+
+pub point-of-spec : {M : Type 1} → statement M
+point-of-spec =
+    tie.close
+    (tie.spec
+    convertible-requires
+    enum-known-verdict
+    enum-told
+    point-at-requires
+    returns
+    returns-2)

@@ -1,0 +1,5 @@
+pub mod Opened
+pub mod Parts
+pub mod Search
+pub mod Session
+pub mod Demand
