@@ -1,0 +1,589 @@
+/* Compares the library under test with the reference: seeded, bounded, every buffer guarded.
+ *
+ *   compare [--seed S] [--seconds T] [--count C]
+ *   compare --replay FILE
+ *
+ * At the first difference the whole input is printed as a case, from a line "case ..." to a line
+ * "end"; any text holding such cases, so also the saved output, can be replayed. The last line
+ * says how many inputs agreed. Exit is 0 only when all did. */
+#define _DEFAULT_SOURCE /* mmap with MAP_ANONYMOUS, alarm */
+#include "interface.h"
+#include "reference.h"
+
+#include <inttypes.h>
+#include <signal.h>
+#include <stdio.h>
+#include <stdlib.h>
+#include <string.h>
+#include <sys/mman.h>
+#include <time.h>
+#include <unistd.h>
+
+enum { ROOM = 1 << 17, GUARD = 64, MOST_LENT = 4, LONG_LIST = 7000, ANSWER_SECONDS = 60 };
+
+/* ---- operations and calls ---- */
+
+enum operation { SEARCH, PACK, CHECK, DIFFERENCES, COEFFICIENTS, EVALUATE, OPEN, POINT, PLACE,
+                 BALANCED, UNBALANCED, OPERATIONS };
+enum role { NONE, TABLE, ROWS, RECORD, LIST, ANSWER, VALUE, ONE };
+
+/* The buffers of an operation: the name, what it holds, and the size of an element. */
+static const struct shape {
+    const char *name;
+    struct lent { const char *name; enum role role; size_t width; } lent[MOST_LENT];
+} shapes[OPERATIONS] = {
+    {"search", {{"table", TABLE, 1}, {"record", RECORD, 1}, {"list", LIST, 1}, {"answer", ANSWER, 1}}},
+    {"pack", {{"rows", ROWS, 1}, {"table", TABLE, 8}}},
+    {"check", {{"table", TABLE, 8}}},
+    {"differences", {{"coefficients", TABLE, 8}, {"table", TABLE, 8}}},
+    {"coefficients", {{"table", TABLE, 8}, {"coefficients", TABLE, 8}}},
+    {"evaluate", {{"coefficients", TABLE, 8}, {"value", VALUE, 8}}},
+    {"open", {{"table", TABLE, 8}, {"record", RECORD, 8}}},
+    {"point", {{"point", ONE, 8}}},
+    {"place", {{"place", ONE, 8}}},
+    {"balanced", {{"number", ONE, 8}}},
+    {"unbalanced", {{"point", ONE, 8}}},
+};
+
+/* How buffers are lent: between guard bytes (byte buffers moved by shift), ending at a page end
+ * before an inaccessible page, or beginning behind one. */
+enum memory { BYTES, PAGE_END, PAGE_START };
+
+/* One input. The number is the budget, place, point or balanced number; lengths count elements;
+ * words stand in the bytes lowest first. A search with steps is searched on to the end by calls
+ * whose budgets and list lengths are drawn from that seed, and their joined results are held
+ * against one search of the reference. */
+struct call {
+    enum operation op;
+    uint64_t n, m, number, steps;
+    unsigned memory, shift;
+    size_t len[MOST_LENT];
+    uint8_t bytes[MOST_LENT][ROOM];
+};
+
+static struct call now, step; /* the input, and a call inside of one with steps */
+
+static const struct lent *lent_of(const struct call *c, unsigned i) {
+    return &shapes[c->op].lent[i];
+}
+
+static unsigned lent_count(const struct call *c) {
+    unsigned i = 0;
+    while (i < MOST_LENT && lent_of(c, i)->role != NONE)
+        i++;
+    return i;
+}
+
+static size_t bytes_lent(const struct call *c, unsigned i) {
+    return c->len[i] * lent_of(c, i)->width;
+}
+
+static uint64_t word(const struct call *c, unsigned i, size_t k) {
+    return word_at(c->bytes[i] + 8 * k);
+}
+
+static void set_word(struct call *c, unsigned i, size_t k, uint64_t word) {
+    put_word(c->bytes[i] + 8 * k, word);
+}
+
+#define PERFORM(who) \
+static uint64_t perform_##who(const struct call *c, void *const b[MOST_LENT]) { \
+    const size_t *l = c->len; \
+    switch (c->op) { \
+    case SEARCH: return who##_search(c->n, c->m, b[0], l[0], b[1], l[1], c->number, b[2], l[2], b[3], l[3]); \
+    case PACK: return who##_pack(c->n, c->m, b[0], l[0], b[1], l[1]); \
+    case CHECK: return who##_check(c->n, c->m, b[0], l[0]); \
+    case DIFFERENCES: return who##_differences(c->n, c->m, b[0], l[0], b[1], l[1]); \
+    case COEFFICIENTS: return who##_coefficients(c->n, c->m, b[0], l[0], b[1], l[1]); \
+    case EVALUATE: return who##_evaluate(c->n, c->m, b[0], l[0], c->number, b[1], l[1]); \
+    case OPEN: return who##_open(c->n, c->m, b[0], l[0], c->number, b[1], l[1]); \
+    case POINT: return who##_point(c->n, c->number, b[0], l[0]); \
+    case PLACE: return who##_place(c->n, c->number, b[0], l[0]); \
+    case BALANCED: return who##_balanced(c->n, c->number, b[0], l[0]); \
+    case UNBALANCED: return who##_unbalanced(c->n, (int64_t)c->number, b[0], l[0]); \
+    default: abort(); \
+    } \
+}
+PERFORM(vayudrit)
+PERFORM(reference)
+
+/* ---- reports and cases ---- */
+
+static const struct call *current; /* being performed */
+static unsigned long agreed, walks, results[OPERATIONS][8];
+
+static void print_case(const struct call *c) {
+    printf("case %s\nn %" PRIu64 "\nm %" PRIu64 "\nnumber %" PRIu64 "\nsteps %" PRIu64
+           "\nmemory %u %u\n", shapes[c->op].name, c->n, c->m, c->number, c->steps, c->memory, c->shift);
+    for (unsigned i = 0; i < lent_count(c); i++) {
+        printf("lent %s %zu", lent_of(c, i)->name, c->len[i]);
+        for (size_t k = 0; k < bytes_lent(c, i); k++)
+            printf("%s%02x", k % 32 == 0 ? "\n" : "", c->bytes[i][k]);
+        puts("");
+    }
+    puts("end");
+}
+
+static void differ(const struct call *c, const char *what, const char *name, uint64_t expected,
+                   uint64_t got) {
+    printf("difference: %s%s: expected %" PRIu64 ", got %" PRIu64 "\n", what, name, expected, got);
+    print_case(c);
+    printf("%lu inputs agree, 1 differ\n", agreed);
+    fflush(stdout);
+    _exit(1);
+}
+
+/* The library touched an inaccessible page, aborted, or gave no answer. The process is at its
+ * end, so that printing from here is worth more than it risks. */
+static void on_signal(int number) {
+    differ(current, number == SIGALRM ? "no answer" : "signal", "", 0, (uint64_t)number);
+}
+
+static void fail(const char *what) {
+    fprintf(stderr, "compare: %s\n", what);
+    exit(2);
+}
+
+/* The next case of a text, or 0. */
+static int read_case(FILE *file, struct call *c) {
+    char token[100] = "";
+    while (strcmp(token, "case") != 0)
+        if (fscanf(file, "%99s", token) != 1) return 0;
+    if (fscanf(file, "%99s n %" SCNu64 " m %" SCNu64 " number %" SCNu64 " steps %" SCNu64
+               " memory %u %u", token, &c->n, &c->m, &c->number, &c->steps, &c->memory, &c->shift) != 7)
+        fail("a damaged case");
+    for (c->op = 0; c->op < OPERATIONS && strcmp(shapes[c->op].name, token) != 0;)
+        c->op++;
+    if (c->op == OPERATIONS || c->memory > PAGE_START || c->shift > 7) fail("an unknown case");
+    for (unsigned i = 0; i < lent_count(c); i++) {
+        if (fscanf(file, " lent %99s %zu", token, &c->len[i]) != 2 || c->len[i] > ROOM
+            || bytes_lent(c, i) > ROOM - 2 * GUARD)
+            fail("a damaged case");
+        for (size_t k = 0; k < bytes_lent(c, i); k++)
+            if (fscanf(file, "%2hhx", &c->bytes[i][k]) != 1) fail("a damaged case");
+    }
+    return 1;
+}
+
+/* ---- lending and comparing ---- */
+
+static uint8_t *arena[MOST_LENT]; /* ROOM bytes each, an inaccessible page on both sides */
+
+static void make_arenas(void) {
+    size_t page = (size_t)sysconf(_SC_PAGESIZE);
+    for (unsigned i = 0; i < MOST_LENT; i++) {
+        uint8_t *all = mmap(NULL, ROOM + 2 * page, PROT_READ | PROT_WRITE,
+                            MAP_PRIVATE | MAP_ANONYMOUS, -1, 0);
+        if (all == MAP_FAILED || mprotect(all, page, PROT_NONE) != 0
+            || mprotect(all + page + ROOM, page, PROT_NONE) != 0)
+            fail("no guarded memory");
+        arena[i] = all + page;
+    }
+}
+
+/* Writes the guard bytes around a lent buffer (write) or says whether they all stand. */
+static int guards(unsigned i, const uint8_t *start, size_t bytes, int write) {
+    size_t first = (size_t)(start - arena[i]), end = first + bytes;
+    for (size_t k = first > GUARD ? first - GUARD : 0; k < end + GUARD && k < ROOM; k++) {
+        uint8_t guard = (uint8_t)(k * 167 + 91);
+        if (k >= first && k < end) continue;
+        if (write) arena[i][k] = guard;
+        else if (arena[i][k] != guard) return 0;
+    }
+    return 1;
+}
+
+static uint8_t *lend(const struct call *c, unsigned i) {
+    size_t bytes = bytes_lent(c, i);
+    uint8_t *start = arena[i];
+    if (c->memory == BYTES)
+        start += GUARD + (lent_of(c, i)->width == 1 ? c->shift : 0);
+    else if (c->memory == PAGE_END)
+        start += ROOM - bytes;
+    guards(i, start, bytes, 1);
+    memcpy(start, c->bytes[i], bytes);
+    return start;
+}
+
+static uint8_t after[MOST_LENT][ROOM]; /* what the library left in the buffers */
+
+/* One call. The reference works on copies of exactly the lent length. */
+static uint64_t compare_call(const struct call *c) {
+    void *expected[MOST_LENT] = {0}, *lent[MOST_LENT] = {0};
+    uint64_t wanted, got;
+    unsigned count = lent_count(c);
+    current = c;
+    for (unsigned i = 0; i < count; i++) {
+        expected[i] = malloc(bytes_lent(c, i) > 0 ? bytes_lent(c, i) : 1);
+        if (expected[i] == NULL) fail("no memory");
+        memcpy(expected[i], c->bytes[i], bytes_lent(c, i));
+        lent[i] = lend(c, i);
+    }
+    wanted = perform_reference(c, expected);
+    alarm(ANSWER_SECONDS);
+    got = perform_vayudrit(c, lent);
+    alarm(0);
+    if (got != wanted) differ(c, "the number given back", "", wanted, got);
+    for (unsigned i = 0; i < count; i++) {
+        const uint8_t *want = expected[i], *have = lent[i];
+        for (size_t k = 0; k < bytes_lent(c, i); k++)
+            if (have[k] != want[k]) {
+                printf("at byte %zu:\n", k);
+                differ(c, "contents of ", lent_of(c, i)->name, want[k], have[k]);
+            }
+        if (!guards(i, have, bytes_lent(c, i), 0))
+            differ(c, "bytes outside of ", lent_of(c, i)->name, 0, 1);
+        memcpy(after[i], have, bytes_lent(c, i));
+        free(expected[i]);
+    }
+    agreed++;
+    results[c->op][wanted]++;
+    return wanted;
+}
+
+/* ---- random parts ---- */
+
+static uint64_t random_state;
+
+static uint64_t random_word(void) { /* splitmix64 */
+    uint64_t z = random_state += UINT64_C(0x9e3779b97f4a7c15);
+    z = (z ^ z >> 30) * UINT64_C(0xbf58476d1ce4e5b9);
+    z = (z ^ z >> 27) * UINT64_C(0x94d049bb133111eb);
+    return z ^ z >> 31;
+}
+
+static uint64_t below(uint64_t bound) { return random_word() % bound; }
+static int one_in(uint64_t bound) { return below(bound) == 0; }
+#define ONE_OF(...) (((const uint64_t[]){__VA_ARGS__})[below(sizeof (uint64_t[]){__VA_ARGS__} / 8)])
+
+static const uint64_t TWO_32 = (uint64_t)1 << 32, TWO_63 = (uint64_t)1 << 63;
+
+static void fill(struct call *c, unsigned i, size_t from) {
+    for (size_t k = from; k < bytes_lent(c, i); k++)
+        c->bytes[i][k] = (uint8_t)random_word();
+}
+
+/* A call with buffers of the right lengths and any contents. */
+static void begin(struct call *c, enum operation op, uint64_t n, uint64_t m) {
+    size_t words[] = {[TABLE] = 2 * monomials(n), [RECORD] = RECORD_WORDS, [LIST] = 1,
+                      [ANSWER] = ANSWER_WORDS, [VALUE] = 2, [ONE] = 1};
+    c->op = op;
+    c->n = n;
+    c->m = m;
+    c->number = c->steps = 0;
+    c->memory = (unsigned)ONE_OF(BYTES, BYTES, PAGE_END, PAGE_START);
+    c->shift = (unsigned)below(8);
+    for (unsigned i = 0; i < lent_count(c); i++) {
+        enum role role = lent_of(c, i)->role;
+        c->len[i] = role == ROWS ? (size_t)m * monomials(n) : words[role] * 8 / lent_of(c, i)->width;
+        fill(c, i, 0);
+    }
+}
+
+static uint64_t random_m(void) { return ONE_OF(1, 1, 2, 2 + below(6), 63, 64, 64, 1 + below(64)); }
+
+/* Dense, sparse or empty rows, or few different rows, so that zeros stay likely. */
+static void random_rows(uint64_t n, uint64_t m, int8_t *rows) {
+    size_t size = monomials(n);
+    unsigned kind = (unsigned)below(8);
+    for (size_t k = 0; k < m * size; k++)
+        rows[k] = kind == 0 || (kind < 4 && !one_in(8)) ? 0 : (int8_t)(below(256) - 128);
+    for (size_t e = 2; kind > 5 && e < m; e++)
+        for (size_t k = 0, from = below(kind - 5) * size; k < size; k++)
+            rows[e * size + k] = (int8_t)(rows[from + k] % 3 * (e % 2 ? -1 : 1));
+}
+
+/* A random system, in part with a zero planted at a random point: its coefficients where the
+ * operation takes them, its differences elsewhere. */
+static void put_random_table(struct call *c) {
+    static int8_t rows[MOST_EQUATIONS * MOST_MONOMIALS];
+    uint64_t words[2 * MOST_MONOMIALS], v[2];
+    size_t size = monomials(c->n);
+    random_rows(c->n, c->m, rows);
+    reference_pack(c->n, c->m, rows, c->m * size, words, 2 * size);
+    if (one_in(3)) {
+        reference_evaluate(c->n, c->m, words, 2 * size, below(power_of_three((unsigned)c->n)), v, 2);
+        for (size_t e = 0; e < c->m; e++)
+            rows[e * size] = (int8_t)(rows[e * size] % 3 - (int)((v[0] >> e & 1) + (v[1] >> e & 1)));
+        reference_pack(c->n, c->m, rows, c->m * size, words, 2 * size);
+    }
+    if (c->op != DIFFERENCES && c->op != EVALUATE)
+        reference_differences(c->n, c->m, words, 2 * size, words, 2 * size);
+    for (size_t k = 0; k < 2 * size; k++)
+        set_word(c, 0, k, words[k]);
+}
+
+/* Near 0, the middle, the end and the multiples of powers of three; at most 3^n. */
+static uint64_t random_place(uint64_t n) {
+    uint64_t end = power_of_three((unsigned)n), near = below(30);
+    uint64_t mark = (1 + below(2)) * power_of_three((unsigned)below(n));
+    uint64_t place = ONE_OF(near, end - near, end, end / 2 + near, mark - near, mark + near,
+                            below(end), below(end));
+    return place <= end ? place : below(end + 1);
+}
+
+/* A number to convert or evaluate at, good or just outside. */
+static uint64_t random_number(const struct call *c) {
+    uint64_t end = power_of_three(c->n <= 20 ? (unsigned)c->n : 20), half = (end - 1) / 2;
+    if (c->op == UNBALANCED)
+        return ONE_OF(0, half, -half, half + 1, -half - 1, half - below(end), half - below(end),
+                      TWO_63, TWO_63 - 1, random_word());
+    return ONE_OF(0, below(end), below(end), below(end), end - 1, end, end + 1, end + TWO_32,
+                  UINT64_MAX, random_word());
+}
+
+static void put_record(struct call *c, uint64_t place) {
+    uint64_t table[2 * MOST_MONOMIALS], record[RECORD_WORDS];
+    for (size_t k = 0; k < 2 * monomials(c->n); k++)
+        table[k] = word(c, 0, k);
+    reference_open(c->n, c->m, table, 2 * monomials(c->n), place, record, RECORD_WORDS);
+    for (size_t k = 0; k < RECORD_WORDS; k++)
+        set_word(c, 1, k, record[k]);
+}
+
+static void put_list(struct call *c, uint64_t entries) {
+    c->len[2] = 8 * (size_t)entries;
+    fill(c, 2, 0);
+    fill(c, 3, 0);
+}
+
+/* A budget, without bound only where the end is near, and a list. */
+static void put_limits(struct call *c) {
+    uint64_t end = power_of_three((unsigned)c->n), left = end - word(c, 1, RECORD_PLACE);
+    uint64_t most = left < LONG_LIST ? left + 2 : 60;
+    c->number = ONE_OF(1, 2, 3, 1 + below(most), most - 2 + (most == 2), most - 1);
+    if (left < LONG_LIST && one_in(3))
+        c->number = ONE_OF(UINT64_MAX, UINT64_MAX, UINT64_MAX - 1, TWO_63, TWO_32, TWO_32 + 1);
+    put_list(c, ONE_OF(1, 2, 3, 26, 27, 28, 1 + below(100), 6561, LONG_LIST));
+}
+
+static void begin_search(uint64_t n) {
+    begin(&now, SEARCH, n, random_m());
+    put_random_table(&now);
+    put_record(&now, random_place(n));
+    put_limits(&now);
+}
+
+/* ---- damage ---- */
+
+static void damage_size(uint64_t *size, uint64_t most) {
+    *size = ONE_OF(0, most + 1, most + 2, UINT64_MAX, *size + TWO_32, *size + 1, *size - 1,
+                   256 + *size, random_word());
+}
+
+static void damage_length(struct call *c, unsigned i) {
+    size_t old = c->len[i], width = lent_of(c, i)->width;
+    size_t length = (size_t)ONE_OF(0, old + 1, old - 1, old + 8, old - 8, 2 * old, old / 2,
+                                   old + 2, old - 2, below(400));
+    if (length > (ROOM - 2 * GUARD) / width) return; /* also where it fell below 0 */
+    c->len[i] = length;
+    fill(c, i, old * width);
+}
+
+/* Another pair at word k of a buffer: legal, low without high, or with stray bits. */
+static void damage_pair(struct call *c, unsigned i, size_t k) {
+    unsigned m = c->m >= 1 && c->m < 64 ? (unsigned)c->m : 63;
+    uint64_t bit = (uint64_t)1 << ONE_OF(below(m), below(m), m, 63, m + below(64 - m));
+    uint64_t high = word(c, i, k), low = word(c, i, k + 1);
+    uint64_t kind = below(4);
+    set_word(c, i, k, kind == 0 ? high & ~bit : kind == 1 ? high ^ bit : high | bit);
+    set_word(c, i, k + 1, kind == 0 ? low | bit : kind == 1 ? low & ~bit : kind == 2 ? low ^ bit : low);
+}
+
+static void damage_record(struct call *c, size_t k) {
+    uint64_t end = power_of_three(c->n <= 20 ? (unsigned)c->n : 20), old = word(c, 1, k);
+    if (k >= RECORD_VALUE && one_in(2))
+        damage_pair(c, 1, k - (k - RECORD_VALUE) % 2);
+    else if (k == RECORD_PLACE)
+        set_word(c, 1, k, ONE_OF(old + 1, old - 1, 0, end, end + 1, UINT64_MAX, below(end)));
+    else
+        set_word(c, 1, k, old ^ (uint64_t)1 << below(64));
+}
+
+/* One fault, or what may be one. */
+static void damage(struct call *c) {
+    switch (below(c->op == SEARCH ? 10 : 6)) {
+    case 0: damage_size(&c->n, 20); break;
+    case 1: damage_size(&c->m, 64); break;
+    case 2: damage_length(c, (unsigned)below(lent_count(c))); break;
+    case 3:
+    case 4:
+        if (lent_of(c, 0)->role == TABLE && bytes_lent(c, 0) >= 16)
+            damage_pair(c, 0, 2 * (size_t)below(bytes_lent(c, 0) / 16));
+        break;
+    case 5: c->number = c->op == SEARCH ? 0 : random_number(c); break;
+    case 6: c->len[2] = 0; break;
+    default:
+        if (c->len[1] == 8 * RECORD_WORDS) damage_record(c, (size_t)below(RECORD_WORDS));
+    }
+    if (c->op == SEARCH && c->n > 8 && c->number > 1000)
+        c->number = 1000; /* a damaged place must not become a walk of 3^20 */
+}
+
+static void damage_some(struct call *c) {
+    uint64_t faults = ONE_OF(0, 0, 0, 0, 0, 1, 1, 2, 3, 4);
+    while (faults-- > 0)
+        damage(c);
+}
+
+/* ---- inputs ---- */
+
+static void try_simple(void) {
+    enum operation op = (enum operation)(PACK + below(OPERATIONS - PACK));
+    begin(&now, op, ONE_OF(1, 2, 3, 4, 5, 1 + below(20), 20), random_m());
+    if (op == PACK && one_in(2))
+        random_rows(now.n, now.m, (int8_t *)now.bytes[0]);
+    else if (op > PACK && op < POINT)
+        put_random_table(&now);
+    now.number = op == OPEN ? random_place(now.n) : random_number(&now);
+    if (op == OPEN && one_in(8))
+        now.number = power_of_three((unsigned)now.n) + ONE_OF(0, 1, 2, TWO_32);
+    damage_some(&now);
+    compare_call(&now);
+}
+
+/* A few calls in turn, from any place. */
+static void try_search(void) {
+    begin_search(ONE_OF(20, 20, 9 + below(11), 1 + below(8), 1 + below(4)));
+    damage_some(&now);
+    for (uint64_t calls = 1 + below(4); calls > 0; calls--) {
+        if (compare_call(&now) != 0) return;
+        memcpy(now.bytes[1], after[1], 8 * RECORD_WORDS);
+        put_limits(&now);
+    }
+}
+
+/* Each field of one record in turn. */
+static void try_fields(void) {
+    static uint8_t record[8 * RECORD_WORDS];
+    begin_search(ONE_OF(20, 1 + below(20), 1 + below(4)));
+    now.number = 1 + below(5);
+    memcpy(record, now.bytes[1], sizeof record);
+    for (size_t k = 0; k < RECORD_WORDS; k++) {
+        damage_record(&now, k);
+        compare_call(&now);
+        memcpy(now.bytes[1], record, sizeof record);
+    }
+}
+
+/* Every system of one equation in one unknown (k from 0 to 26), at every place, with every small
+ * budget and list. */
+static void try_one_unknown(uint64_t k) {
+    const int8_t row[3] = {(int8_t)(k % 3), (int8_t)(k / 3 % 3), (int8_t)(k / 9)};
+    uint64_t table[6];
+    begin(&now, SEARCH, 1, 1);
+    reference_pack(1, 1, row, 3, table, 6);
+    for (uint64_t place = 0; place <= 3; place++)
+        for (now.number = 0; now.number <= 4; now.number++)
+            for (uint64_t entries = 0; entries <= 4; entries++) {
+                for (size_t j = 0; j < 6; j++)
+                    set_word(&now, 0, j, table[j]);
+                put_record(&now, place);
+                put_list(&now, entries);
+                compare_call(&now);
+            }
+}
+
+/* A search with steps. */
+static void run_walk(void) {
+    static uint64_t joined[LONG_LIST];
+    uint64_t sum[ANSWER_WORDS] = {SPENT};
+    void *whole[MOST_LENT] = {now.bytes[0], after[0], after[1], after[2]};
+    random_state = now.steps;
+    step = now;
+    step.steps = 0;
+    while (sum[ANSWER_STOP] != ENDED) {
+        put_limits(&step);
+        if (now.n > 5 && one_in(2)) { /* large steps, so that it ends in time */
+            step.number = 100 + below(power_of_three((unsigned)now.n));
+            put_list(&step, ONE_OF(6561, LONG_LIST, 100 + below(1000)));
+        }
+        if (compare_call(&step) != 0) differ(&now, "a refusal inside of a walk", "", 0, 1);
+        for (uint64_t j = 0; j < word_at(after[3] + 8 * ANSWER_FOUND); j++)
+            joined[sum[ANSWER_FOUND] + j] = word_at(after[2] + 8 * j);
+        for (size_t k = ANSWER_POINTS; k <= ANSWER_FOUND; k++)
+            sum[k] += word_at(after[3] + 8 * k);
+        sum[ANSWER_STOP] = word_at(after[3] + 8 * ANSWER_STOP);
+        sum[ANSWER_PLACE] = word_at(after[3] + 8 * ANSWER_PLACE);
+        memcpy(step.bytes[1], after[1], 8 * RECORD_WORDS);
+    }
+    compare_call(&step); /* and once more, ended before the first point */
+    memcpy(after[0], now.bytes[1], 8 * RECORD_WORDS);
+    if (perform_reference(&now, whole) != 0) fail("the reference refuses a whole walk");
+    for (size_t k = 0; k < ANSWER_WORDS; k++)
+        if (sum[k] != word_at(after[2] + 8 * k))
+            differ(&now, "joined answers", "", word_at(after[2] + 8 * k), sum[k]);
+    for (size_t k = 0; k < sum[ANSWER_FOUND]; k++)
+        if (joined[k] != word_at(after[1] + 8 * k))
+            differ(&now, "joined lists", "", word_at(after[1] + 8 * k), joined[k]);
+    walks++;
+}
+
+static void try_walk(void) {
+    begin_search(ONE_OF(1, 2, 3, 4, 1 + below(5), 1 + below(8)));
+    if (one_in(2)) put_record(&now, 0);
+    now.number = UINT64_MAX;
+    put_list(&now, LONG_LIST);
+    now.steps = 1 + below(TWO_32);
+    run_walk();
+}
+
+static void try_input(uint64_t k) {
+    uint64_t kind = below(100);
+    if (k < 27) try_one_unknown(k);
+    else if (kind < 60) try_simple();
+    else if (kind < 92) try_search();
+    else if (kind < 94) try_fields();
+    else try_walk();
+}
+
+/* ---- the program ---- */
+
+static void replay(const char *name) {
+    FILE *file = fopen(name, "r");
+    if (file == NULL) fail("the file to replay cannot be opened");
+    while (read_case(file, &now))
+        if (now.steps != 0) run_walk();
+        else compare_call(&now);
+    if (agreed == 0) fail("no case to replay");
+    fclose(file);
+}
+
+static void try_many(uint64_t seed, uint64_t seconds, uint64_t count) {
+    time_t begun = time(NULL);
+    for (uint64_t k = 0; agreed < count && (uint64_t)(time(NULL) - begun) < seconds; k++) {
+        random_state = (seed << 32) + k;
+        random_state = random_word();
+        try_input(k);
+    }
+    printf("seed %" PRIu64 ", %lu whole walks; inputs by number given back, 0 to 7:\n", seed, walks);
+    for (unsigned op = 0; op < OPERATIONS; op++) {
+        printf("%-12s", shapes[op].name);
+        for (unsigned k = 0; k < 8; k++)
+            printf(" %8lu", results[op][k]);
+        puts("");
+    }
+}
+
+int main(int argc, char **argv) {
+    static const int signals[] = {SIGSEGV, SIGBUS, SIGABRT, SIGILL, SIGFPE, SIGALRM};
+    uint64_t seed = 1, seconds = 60, count = 10000000;
+    const char *file = NULL;
+    for (int k = 1; k < argc; k += 2) {
+        const char *value = k + 1 < argc ? argv[k + 1] : "";
+        uint64_t number = strtoull(value, NULL, 10);
+        if (strcmp(argv[k], "--seed") == 0) seed = number;
+        else if (strcmp(argv[k], "--seconds") == 0) seconds = number;
+        else if (strcmp(argv[k], "--count") == 0) count = number;
+        else if (strcmp(argv[k], "--replay") == 0) file = value;
+        else fail("known: --seed S, --seconds T, --count C, --replay FILE");
+    }
+    if (word_at((const uint8_t *)&seed) != seed) fail("made for machines with lowest byte first");
+    for (unsigned k = 0; k < sizeof signals / sizeof *signals; k++)
+        signal(signals[k], on_signal);
+    make_arenas();
+    if (file != NULL) replay(file);
+    else try_many(seed, seconds, count);
+    printf("%lu inputs agree, 0 differ\n", agreed);
+    return 0;
+}

@@ -1,0 +1,483 @@
+/* Self tests of the reference against document 01: its cases by hand, its examples, and its two
+ * descriptions of one thing held against each other. Prints the counts; fails if one failed. */
+#include "reference.h"
+
+#include <stdio.h>
+#include <string.h>
+
+static unsigned passed, failed;
+
+static void expect(int good, const char *what, int line) {
+    if (!good) printf("model_test.c:%d: failed: %s\n", line, what);
+    *(good ? &passed : &failed) += 1;
+}
+#define EXPECT(condition) expect((condition) ? 1 : 0, #condition, __LINE__)
+
+static const uint64_t NO_LIMIT = UINT64_MAX;
+static const uint64_t JUNK = UINT64_C(0x9e3779b97f4a7c15);
+
+static uint64_t random_state = 1;
+static unsigned random_below(unsigned bound) {
+    random_state = random_state * UINT64_C(6364136223846793005) + 1442695040888963407u;
+    return (unsigned)(random_state >> 33) % bound;
+}
+
+/* A table with its n and m. */
+struct table { uint64_t n, m, words[2 * MOST_MONOMIALS]; };
+
+static size_t length(const struct table *t) { return 2 * monomials(t->n); }
+
+static struct table pack(uint64_t n, uint64_t m, const int8_t *rows) {
+    struct table t = {n, m, {0}};
+    EXPECT(reference_pack(n, m, rows, m * monomials(n), t.words, length(&t)) == 0);
+    return t;
+}
+
+static struct table differences(const struct table *c) {
+    struct table d = {c->n, c->m, {0}};
+    EXPECT(reference_differences(c->n, c->m, c->words, length(c), d.words, length(&d)) == 0);
+    return d;
+}
+
+static struct table random_system(uint64_t n, uint64_t m) {
+    int8_t rows[MOST_EQUATIONS * MOST_MONOMIALS];
+    for (size_t k = 0; k < m * monomials(n); k++)
+        rows[k] = (int8_t)((int)random_below(256) - 128);
+    return pack(n, m, rows);
+}
+
+/* A search: the record, the list and the answer after it. */
+struct run { uint64_t record[RECORD_WORDS], list[100], answer[ANSWER_WORDS], refusal; };
+
+static void start(struct run *r, const struct table *d, uint64_t place) {
+    for (unsigned k = 0; k < 100; k++)
+        r->list[k] = JUNK;
+    EXPECT(reference_open(d->n, d->m, d->words, length(d), place, r->record, RECORD_WORDS) == 0);
+}
+
+static void go_on(struct run *r, const struct table *d, uint64_t budget, size_t list_len) {
+    r->refusal = reference_search_words(d->n, d->m, d->words, length(d), r->record, RECORD_WORDS,
+                                        budget, r->list, list_len, r->answer, ANSWER_WORDS);
+}
+
+/* A search from place 0 gives these points and this answer, and leaves the rest of the list. */
+static int gives(const struct table *d, uint64_t budget, size_t list_len, const uint64_t *list,
+                 uint64_t found, uint64_t stop, uint64_t place, uint64_t points, uint64_t additions) {
+    struct run r;
+    const uint64_t answer[ANSWER_WORDS] = {stop, place, points, additions, found};
+    start(&r, d, 0);
+    go_on(&r, d, budget, list_len);
+    for (uint64_t k = 0; k < 100; k++)
+        if (r.list[k] != (k < found ? list[k] : JUNK)) return 0;
+    return r.refusal == 0 && memcmp(r.answer, answer, sizeof answer) == 0
+        && r.record[RECORD_PLACE] == place;
+}
+
+static const int8_t EDGE[6] = {2, 0, 0, 1, 1, 1};
+
+static void signed_numbers_and_trits(void) {
+    static const int8_t row[3] = {-128, -1, -3}, twice[3] = {0, 2, 0};
+    static const uint64_t words[6] = {1, 0, 1, 1, 0, 0};
+    struct table t = pack(1, 1, row);
+    uint64_t value[2];
+    EXPECT(memcmp(t.words, words, sizeof words) == 0);
+    EXPECT(remainder_of(-1) == 2 && remainder_of(-3) == 0);
+    EXPECT(remainder_of(127) == 1 && remainder_of(-128) == 1);
+    for (int k = -128; k < 125; k++)
+        EXPECT(remainder_of(k) == remainder_of(k + 3));
+    t = pack(1, 1, twice); /* 2 times 2 is 1 */
+    EXPECT(reference_evaluate(1, 1, t.words, 6, 2, value, 2) == 0);
+    EXPECT(value[0] == 1 && value[1] == 0);
+    EXPECT(monomials(1) == 3 && monomials(2) == 6 && monomials(20) == 231);
+    EXPECT(product_index(3, 0, 0) == 4 && product_index(3, 0, 2) == 6);
+    EXPECT(product_index(3, 1, 1) == 7 && product_index(3, 2, 2) == 9);
+}
+
+static void legality(void) {
+    uint64_t words[2 * MOST_MONOMIALS] = {0};
+    EXPECT(reference_check(20, 64, words, 462) == 0);
+    EXPECT(reference_check(0, 1, words, 2) == 1 && reference_check(21, 1, words, 462) == 1);
+    EXPECT(reference_check(1, 0, words, 6) == 1 && reference_check(20, 65, words, 462) == 1);
+    EXPECT(reference_check(1, 1, words, 5) == 2 && reference_check(1, 1, words, 7) == 2);
+    words[3] = 4; /* a low bit without its high bit */
+    EXPECT(reference_check(1, 3, words, 6) == 3);
+    words[2] = 4;
+    EXPECT(reference_check(1, 3, words, 6) == 0 && reference_check(1, 2, words, 6) == 3);
+    words[2] = words[3] = UINT64_MAX;
+    EXPECT(reference_check(1, 64, words, 6) == 0 && reference_check(1, 63, words, 6) == 3);
+    words[2] = (uint64_t)1 << 63;
+    words[3] = 0;
+    EXPECT(reference_check(1, 64, words, 6) == 0 && reference_check(1, 63, words, 6) == 3);
+}
+
+static void places_points_and_positions(void) {
+    static const uint64_t points[9] = {0, 1, 2, 5, 3, 4, 7, 8, 6};
+    unsigned position[2 * MOST_UNKNOWNS];
+    uint64_t point, before, place;
+    for (uint64_t p = 0; p < 9; p++) {
+        EXPECT(reference_point(2, p, &point, 1) == 0 && point == points[p]);
+        EXPECT(reference_place(2, points[p], &place, 1) == 0 && place == p);
+    }
+    EXPECT(positions_of(0, position) == 0);
+    EXPECT(positions_of(5, position) == 3);
+    EXPECT(position[0] == 0 && position[1] == 0 && position[2] == 1);
+    EXPECT(positions_of(2, position) == 2 && position[0] == 0 && position[1] == 0);
+    for (unsigned n = 1; n <= 20; n++)
+        for (unsigned k = 1; k < 300; k++) {
+            uint64_t end = power_of_three(n);
+            uint64_t p = k < end ? (k % 2 ? k : end - k) : end - 1;
+            uint64_t step;
+            positions_of(p, position);
+            step = power_of_three(position[0]);
+            EXPECT(reference_point(n, p - 1, &before, 1) == 0);
+            EXPECT(reference_point(n, p, &point, 1) == 0);
+            EXPECT(point == (before / step % 3 == 2 ? before - 2 * step : before + step));
+            EXPECT(reference_place(n, point, &place, 1) == 0 && place == p);
+        }
+    EXPECT(reference_point(2, 9, &point, 1) == 4 && reference_place(2, 9, &place, 1) == 4);
+    EXPECT(reference_point(0, 0, &point, 0) == 1 && reference_point(21, 0, &point, 1) == 1);
+    EXPECT(reference_point(1, 3, &point, 0) == 2 && reference_point(1, 3, &point, 2) == 2);
+}
+
+static void balanced_numbers(void) {
+    static const struct { uint64_t n, point; int64_t number; } cases[] = {
+        {2, 5, 2}, {2, 6, -3}, {2, 8, -4}, {2, 4, 4}, {1, 2, -1}, {20, 0, 0},
+        {20, 1743392200, 1743392200}, {20, UINT64_C(3486784400), -1743392200},
+    };
+    int64_t number = 77;
+    uint64_t point = 77;
+    for (unsigned k = 0; k < sizeof cases / sizeof *cases; k++) {
+        EXPECT(reference_balanced(cases[k].n, cases[k].point, &number, 1) == 0);
+        EXPECT(number == cases[k].number);
+        EXPECT(reference_unbalanced(cases[k].n, number, &point, 1) == 0 && point == cases[k].point);
+    }
+    for (int64_t k = -364; k <= 364; k++) { /* n = 6, every number, each another point */
+        EXPECT(reference_unbalanced(6, k, &point, 1) == 0 && point < 729);
+        EXPECT(reference_balanced(6, point, &number, 1) == 0 && number == k);
+    }
+    number = 77;
+    point = 77;
+    EXPECT(reference_unbalanced(6, 365, &point, 1) == 4);
+    EXPECT(reference_unbalanced(6, -365, &point, 1) == 4);
+    EXPECT(reference_unbalanced(20, INT64_MIN, &point, 1) == 4);
+    EXPECT(reference_unbalanced(20, INT64_MAX, &point, 0) == 2);
+    EXPECT(reference_balanced(6, 729, &number, 1) == 4 && reference_balanced(0, 0, &number, 2) == 1);
+    EXPECT(number == 77 && point == 77);
+}
+
+static void edge_equation(void) {
+    static const uint64_t words[12] = {1, 1, 1, 0, 0, 0, 1, 1, 0, 0, 1, 0};
+    static const uint64_t list[6] = {1, 2, 5, 3, 7, 6};
+    struct table c = pack(2, 1, EDGE), d = differences(&c), back = {2, 1, {0}};
+    uint64_t value[2];
+    struct run r;
+    EXPECT(memcmp(d.words, words, sizeof words) == 0);
+    EXPECT(reference_coefficients(2, 1, d.words, 12, back.words, 12) == 0);
+    EXPECT(memcmp(back.words, c.words, sizeof c.words) == 0);
+    for (uint64_t point = 0; point < 9; point++) {
+        EXPECT(reference_evaluate(2, 1, c.words, 12, point, value, 2) == 0);
+        EXPECT((value[0] == 0) == (point % 3 != point / 3));
+    }
+    EXPECT(gives(&d, NO_LIMIT, 100, list, 6, ENDED, 9, 9, 14));
+    EXPECT(gives(&d, 9, 6, list, 6, ENDED, 9, 9, 14)); /* "ended", not "full" */
+    EXPECT(gives(&d, 9, 7, list, 6, ENDED, 9, 9, 14)); /* "ended", not "spent" */
+    EXPECT(gives(&d, 4, 8, list, 3, SPENT, 4, 4, 4));
+    EXPECT(gives(&d, 9, 3, list, 3, FULL, 4, 4, 4));
+    EXPECT(gives(&d, 4, 3, list, 3, FULL, 4, 4, 4)); /* both: "full" is asked first */
+    EXPECT(gives(&d, 1, 1, list, 0, SPENT, 1, 1, 0));
+    start(&r, &d, 9); /* "ended" is also asked before the first */
+    go_on(&r, &d, 1, 1);
+    EXPECT(r.refusal == 0 && r.answer[ANSWER_STOP] == ENDED && r.answer[ANSWER_PLACE] == 9);
+    EXPECT(r.answer[ANSWER_POINTS] == 0 && r.answer[ANSWER_ADDITIONS] == 0);
+    EXPECT(r.answer[ANSWER_FOUND] == 0 && r.list[0] == JUNK);
+}
+
+static void small_systems(void) {
+    static const int8_t x0[3] = {0, 1, 0}, nothing[3] = {0, 0, 0}, no_zero[3] = {1, 0, 1};
+    static const uint64_t all[3] = {0, 1, 2};
+    struct table t = pack(1, 1, x0), d = differences(&t);
+    EXPECT(gives(&d, NO_LIMIT, 9, all, 1, ENDED, 3, 3, 3));
+    t = pack(1, 1, nothing);
+    d = differences(&t);
+    EXPECT(gives(&d, NO_LIMIT, 9, all, 3, ENDED, 3, 3, 3));
+    t = pack(1, 1, no_zero);
+    d = differences(&t);
+    EXPECT(gives(&d, NO_LIMIT, 9, all, 0, ENDED, 3, 3, 3));
+}
+
+static void additions_of_whole_walks(void) {
+    static const uint64_t totals[5] = {0, 3, 14, 49, 156};
+    for (unsigned n = 1; n <= 4; n++) {
+        struct table c = random_system(n, 5), d = differences(&c);
+        uint64_t additions = 0;
+        struct run r;
+        start(&r, &d, 0);
+        go_on(&r, &d, NO_LIMIT, 100);
+        EXPECT(r.refusal == 0 && r.answer[ANSWER_ADDITIONS] == totals[n]);
+        EXPECT(r.answer[ANSWER_POINTS] == power_of_three(n));
+        start(&r, &d, 0);
+        do { /* and a point per call */
+            uint64_t place = r.record[RECORD_PLACE];
+            go_on(&r, &d, 1, 1);
+            additions += r.answer[ANSWER_ADDITIONS];
+            EXPECT(r.refusal == 0 && r.answer[ANSWER_POINTS] == 1);
+            EXPECT(r.record[RECORD_PLACE] == place + 1);
+        } while (r.answer[ANSWER_STOP] != ENDED);
+        EXPECT(additions == totals[n]);
+    }
+    for (uint64_t p = 1, power = 1; p < 1000; p++) { /* "1 at powers of three" */
+        EXPECT(cost_of(p) == (p == power ? 1u : 2u));
+        power = p == power ? 3 * power : power;
+    }
+    EXPECT(cost_of(0) == 0);
+}
+
+/* Trit by trit, to = to + factor * from, on pairs of words. */
+static void add_pair(uint64_t *to, const uint64_t *from, int factor) {
+    uint64_t high = 0, low = 0;
+    for (unsigned e = 0; e < 64; e++) {
+        int a = (int)((to[0] >> e & 1) + (to[1] >> e & 1));
+        int b = (int)((from[0] >> e & 1) + (from[1] >> e & 1));
+        int sum = remainder_of(a + factor * b);
+        high |= (uint64_t)(sum != 0) << e;
+        low |= (uint64_t)(sum == 2) << e;
+    }
+    to[0] = high;
+    to[1] = low;
+}
+
+static void evaluate(const struct table *c, uint64_t point, uint64_t value[2]) {
+    EXPECT(reference_evaluate(c->n, c->m, c->words, length(c), point, value, 2) == 0);
+}
+
+/* "system after adding 1 to b, minus system" at the point just before a move of b */
+static void difference_before(const struct table *c, uint64_t move, unsigned b, uint64_t pair[2]) {
+    uint64_t point, here[2], step = power_of_three(b);
+    EXPECT(reference_point(c->n, move - 1, &point, 1) == 0);
+    evaluate(c, point, here);
+    evaluate(c, point / step % 3 == 2 ? point - 2 * step : point + step, pair);
+    add_pair(pair, here, -1);
+}
+
+/* The four formulas against evaluation: the constant is the system at 0, the entry of xi the
+ * difference at its first move, that of xi*xj what the difference changes by when i moves at
+ * 3^i + 3^j after having moved last before it. */
+static void formulas_by_evaluating(const struct table *c) {
+    struct table d = differences(c), back = {c->n, c->m, {0}};
+    uint64_t pair[2], older[2];
+    EXPECT(reference_coefficients(d.n, d.m, d.words, length(&d), back.words, length(&d)) == 0);
+    EXPECT(memcmp(back.words, c->words, sizeof back.words) == 0);
+    evaluate(c, 0, pair);
+    EXPECT(memcmp(pair, d.words, sizeof pair) == 0);
+    for (unsigned i = 0; i < c->n; i++) {
+        difference_before(c, power_of_three(i), i, pair);
+        EXPECT(memcmp(pair, d.words + 2 * (1 + i), sizeof pair) == 0);
+        for (unsigned j = i; j < c->n; j++) {
+            uint64_t move = power_of_three(i) + power_of_three(j);
+            difference_before(c, move, i, pair);
+            difference_before(c, latest_move(i, move - 1), i, older);
+            add_pair(pair, older, -1);
+            EXPECT(memcmp(pair, d.words + 2 * product_index(c->n, i, j), sizeof pair) == 0);
+        }
+    }
+}
+
+/* "Examining place p", the incremental rule of the document, from one opened record on: after
+ * each place it has to give the record that opening there gives. */
+static void walk_against_opening(const struct table *d, uint64_t place, unsigned places) {
+    uint64_t walked[RECORD_WORDS], opened[RECORD_WORDS];
+    unsigned position[2 * MOST_UNKNOWNS];
+    EXPECT(reference_open(d->n, d->m, d->words, length(d), place, walked, RECORD_WORDS) == 0);
+    for (; places-- > 0 && place < power_of_three((unsigned)d->n); place++) {
+        unsigned count = positions_of(place, position);
+        uint64_t *slot = walked + RECORD_SLOTS + 2 * (count > 0 ? position[0] : 0);
+        if (count > 1)
+            add_pair(slot, d->words + 2 * product_index(d->n, position[0], position[1]), 1);
+        if (count > 0)
+            add_pair(walked + RECORD_VALUE, slot, 1);
+        walked[RECORD_PLACE] = place + 1;
+        EXPECT(reference_open(d->n, d->m, d->words, length(d), place + 1, opened,
+                              RECORD_WORDS) == 0);
+        EXPECT(memcmp(walked, opened, sizeof opened) == 0);
+    }
+}
+
+static void records(void) {
+    unsigned position[2 * MOST_UNKNOWNS];
+    for (unsigned b = 0; b < 6; b++) /* the latest move, through all places */
+        for (uint64_t q = 0, latest = 0; q < 800; q++) {
+            if (positions_of(q, position) > 0 && position[0] == b)
+                latest = q;
+            EXPECT(latest_move(b, q) == latest);
+        }
+    for (unsigned n = 1; n <= 5; n++)
+        for (unsigned k = 0; k < 5; k++) {
+            static const unsigned m[5] = {1, 2, 7, 63, 64};
+            struct table c = random_system(n, m[k]), d = differences(&c);
+            formulas_by_evaluating(&c);
+            walk_against_opening(&d, 0, 243);
+        }
+    {
+        struct table c = random_system(20, 64), d = differences(&c);
+        uint64_t end = power_of_three(20), record[RECORD_WORDS];
+        formulas_by_evaluating(&c);
+        walk_against_opening(&d, 0, 60);
+        walk_against_opening(&d, end / 2 - 20, 40);
+        walk_against_opening(&d, 2 * power_of_three(19) - 10, 20);
+        walk_against_opening(&d, end - 40, 40);
+        EXPECT(reference_open(20, 64, d.words, 462, end, record, RECORD_WORDS) == 0);
+        EXPECT(reference_open(20, 64, d.words, 462, end + 1, record, RECORD_WORDS) == 4);
+    }
+}
+
+/* Faults are taken away one after another; what is lent must stay as it was. */
+static void refusal_order(void) {
+    struct table c = random_system(2, 3), d = differences(&c), kept;
+    struct run r, before;
+    uint8_t table[96], record[360], list[16] = {9, 9, 9}, answer[40] = {7};
+    d.words[3] |= 1; /* an illegal pair */
+    d.words[2] &= ~(uint64_t)1;
+    kept = d;
+    start(&r, &c, 4);
+    r.record[RECORD_N] = 21; /* judged by 5 alone */
+    before = r;
+#define SEARCH(n, t_len, r_len, budget, l_len, a_len) \
+    reference_search_words(n, 3, d.words, t_len, r.record, r_len, budget, r.list, l_len, r.answer, a_len)
+    EXPECT(SEARCH(21, 11, 44, 0, 0, 4) == 1);
+    EXPECT(SEARCH(2, 11, 45, 0, 0, 5) == 2);
+    EXPECT(SEARCH(2, 12, 44, 0, 0, 5) == 2);
+    EXPECT(SEARCH(2, 12, 45, 0, 0, 6) == 2);
+    EXPECT(SEARCH(2, 12, 45, 0, 0, 5) == 3);
+    EXPECT(memcmp(&kept, &d, sizeof d) == 0 && memcmp(&before, &r, sizeof r) == 0);
+    d = differences(&c);
+    EXPECT(SEARCH(2, 12, 45, 0, 0, 5) == 5);
+    start(&r, &d, 4);
+    before = r;
+    for (unsigned word = 0; word < RECORD_WORDS; word++) {
+        r.record[word] ^= 1;
+        EXPECT(SEARCH(2, 12, 45, 0, 0, 5) == 5);
+        r.record[word] ^= 1;
+    }
+    r.record[RECORD_PLACE] = 10;
+    EXPECT(SEARCH(2, 12, 45, 1, 1, 5) == 5);
+    r.record[RECORD_PLACE] = 4;
+    EXPECT(SEARCH(2, 12, 45, 0, 0, 5) == 6);
+    EXPECT(SEARCH(2, 12, 45, 1, 0, 5) == 7);
+    EXPECT(memcmp(&before, &r, sizeof r) == 0);
+#undef SEARCH
+    /* the harness's bytes: the same, lowest byte first */
+    for (unsigned k = 0; k < 12; k++)
+        put_word(table + 8 * k, d.words[k]);
+    for (unsigned k = 0; k < RECORD_WORDS; k++)
+        put_word(record + 8 * k, r.record[k]);
+    EXPECT(reference_search(2, 65, table, 95, record, 359, 0, list, 7, answer, 39) == 1);
+    EXPECT(reference_search(2, 3, table, 95, record, 360, 0, list, 0, answer, 40) == 2);
+    EXPECT(reference_search(2, 3, table, 96, record, 361, 0, list, 0, answer, 40) == 2);
+    EXPECT(reference_search(2, 3, table, 96, record, 360, 0, list, 7, answer, 40) == 2);
+    EXPECT(reference_search(2, 3, table, 96, record, 360, 0, list, 0, answer, 32) == 2);
+    EXPECT(reference_search(2, 3, table, 96, record, 360, 0, list, 0, answer, 40) == 6);
+    EXPECT(answer[0] == 7 && record[16] == 4 && list[0] == 9);
+    EXPECT(reference_search(2, 3, table, 96, record, 360, 2, list, 16, answer, 40) == 0);
+    EXPECT(answer[0] == SPENT && answer[8] == 6 && answer[16] == 2 && answer[24] == 4);
+    EXPECT(record[0] == 2 && record[8] == 3 && record[16] == 6 && record[17] == 0);
+    /* the other operations, two faults at a time */
+    EXPECT(reference_pack(0, 1, (int8_t[]){1}, 1, r.list, 1) == 1);
+    EXPECT(reference_pack(1, 1, EDGE, 3, r.list, 5) == 2 && r.list[0] == JUNK);
+    EXPECT(reference_pack(1, 1, EDGE, 4, r.list, 6) == 2 && r.list[0] == JUNK);
+    d.words[0] = 0;
+    d.words[1] = 1;
+    EXPECT(reference_evaluate(2, 3, d.words, 12, 9, r.list, 1) == 2);
+    EXPECT(reference_evaluate(2, 3, d.words, 12, 9, r.list, 2) == 3);
+    EXPECT(reference_evaluate(2, 3, c.words, 12, 9, r.list, 2) == 4);
+    EXPECT(reference_open(2, 3, d.words, 12, 10, r.list, 44) == 2);
+    EXPECT(reference_open(2, 3, d.words, 12, 10, r.list, 45) == 3);
+    EXPECT(reference_open(2, 3, c.words, 12, 10, r.list, 45) == 4);
+    EXPECT(reference_differences(2, 3, d.words, 12, r.list, 11) == 2);
+    EXPECT(reference_differences(2, 3, d.words, 12, r.list, 12) == 3);
+    EXPECT(reference_coefficients(2, 3, d.words, 12, r.list, 12) == 3);
+    EXPECT(r.list[0] == JUNK);
+}
+
+/* Reading gives this number and this line; a refusal leaves the words. */
+static int reads(const char *text, uint64_t refusal, uint64_t line) {
+    uint64_t words[READER_WORDS];
+    struct graph g;
+    uint64_t got;
+    memset(words, 0x5a, sizeof words);
+    got = reference_read((const uint8_t *)text, strlen(text), words, READER_WORDS, &g);
+    for (size_t k = got == 0 ? 2 * monomials(g.n) : 0; k < READER_WORDS; k++)
+        if (words[k] != UINT64_C(0x5a5a5a5a5a5a5a5a)) return 0;
+    return got == refusal && g.line == line;
+}
+
+/* The number of colourings of a graph with three colours. */
+static uint64_t colourings(const char *text) {
+    struct table c = {0}, d;
+    struct graph g;
+    struct run r;
+    EXPECT(reference_read((const uint8_t *)text, strlen(text), c.words, READER_WORDS, &g) == 0);
+    c.n = g.n;
+    c.m = g.m;
+    d = differences(&c);
+    start(&r, &d, 0);
+    go_on(&r, &d, NO_LIMIT, 100);
+    EXPECT(r.refusal == 0);
+    return r.answer[ANSWER_FOUND];
+}
+
+static void graphs(void) {
+    static uint8_t large[READER_BYTES + 1];
+    static const char end[] = "\np edge 2 1\ne 1 2";
+    struct table c = pack(2, 1, EDGE);
+    uint64_t words[READER_WORDS];
+    struct graph g;
+    EXPECT(reference_read((const uint8_t *)"p edge 2 1\ne 1 2\n", 17, words, READER_WORDS, &g) == 0);
+    EXPECT(g.n == 2 && g.m == 1 && memcmp(words, c.words, 12 * sizeof *words) == 0);
+    EXPECT(reference_read((const uint8_t *)"p edge 2 1\ne 2 1", 16, words, READER_WORDS, &g) == 0);
+    EXPECT(memcmp(words, c.words, 12 * sizeof *words) == 0);
+    EXPECT(colourings("p edge 2 1\ne 1 2\n") == 6);
+    EXPECT(colourings("c a triangle\np edge 3 3\ne 1 2\ne 3 2\ne 1 3\n") == 6);
+    EXPECT(colourings("p edge 4 6\ne 1 2\ne 1 3\ne 1 4\ne 2 3\ne 2 4\ne 3 4") == 0);
+    EXPECT(colourings("p edge 2 2\nc\nc \nc \r\te 9\ne 1 2\ne 1 2\nc") == 6);
+    EXPECT(reads("", 11, 0) && reads("c\n", 11, 0) && reads("\n", 10, 1));
+    EXPECT(reads("p edge 2 1\n\ne 1 2", 10, 2) && reads("c\r\n", 10, 1) && reads("cc", 10, 1));
+    EXPECT(reads("c\tx", 10, 1) && reads("p edge 2 1\r\n", 10, 1) && reads("p col 2 1", 10, 1));
+    EXPECT(reads("p edge  2 1", 10, 1) && reads("p edge 2 1 ", 10, 1) && reads(" p edge 2 1", 10, 1));
+    EXPECT(reads("p edge 2", 10, 1) && reads("p edge 02 1", 10, 1) && reads("p edge 2 +1", 10, 1));
+    EXPECT(reads("p edge 100000 1", 10, 1) && reads("p edge 99999 1", 12, 1));
+    EXPECT(reads("p edge 00 1", 10, 1) && reads("p edge 0 1", 12, 1) && reads("p edge 1 0", 12, 1));
+    EXPECT(reads("p edge 21 1", 12, 1) && reads("p edge 20 65", 12, 1));
+    EXPECT(reads("p edge 20 64", 14, 0) && reads("p edge 2 1\n", 14, 0));
+    EXPECT(reads("e 1 2", 11, 1) && reads("e 1 1\np edge 2 1", 11, 1) && reads("e 1", 10, 1));
+    EXPECT(reads("p edge 2 1\nc x\np edge 99 99", 11, 3) && reads("p edge 2 1\np edge 2", 10, 2));
+    EXPECT(reads("p edge 2 1\ne 1 3", 13, 2) && reads("p edge 2 1\ne 0 1", 13, 2));
+    EXPECT(reads("p edge 2 1\ne 1 1", 13, 2) && reads("p edge 2 1\ne 3 1", 13, 2));
+    EXPECT(reads("p edge 2 1\ne 1 2\ne 1 1", 14, 3) && reads("p edge 2 1\ne 1 2\ne 1", 10, 3));
+    EXPECT(reads("p edge 2 1\ne 1 2\n\n", 10, 3) && reads("p edge 2 1\ne 1 2x", 10, 2));
+    EXPECT(reads("p edge 2 1\ne 123456 2", 10, 2) && reads("p edge 2 1\ne 12345 2", 13, 2));
+    memset(large, 'x', sizeof large);
+    large[0] = 'c';
+    large[1] = ' ';
+    memcpy(large + READER_BYTES - strlen(end), end, strlen(end));
+    EXPECT(reference_read(large, READER_BYTES + 1, words, 0, &g) == 15 && g.line == 0);
+    EXPECT(reference_read(large, READER_BYTES, words, 461, &g) == 2 && g.line == 0);
+    EXPECT(reference_read(large, READER_BYTES, words, 462, &g) == 0 && g.n == 2 && g.m == 1);
+    EXPECT(reference_read(large, 1, words, 462, &g) == 11);
+    large[0] = 0;
+    EXPECT(reference_read(large, READER_BYTES, words, 462, &g) == 10 && g.line == 1);
+}
+
+int main(void) {
+    signed_numbers_and_trits();
+    legality();
+    places_points_and_positions();
+    balanced_numbers();
+    edge_equation();
+    small_systems();
+    additions_of_whole_walks();
+    records();
+    refusal_order();
+    graphs();
+    printf("%u passed, %u failed\n", passed, failed);
+    return failed != 0;
+}
