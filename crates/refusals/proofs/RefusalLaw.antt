@@ -59,3 +59,10 @@ refused-next false r f v w e h = h e
 
 pub refused-last : (b : Bool) (r f : Refusal) (w : Verdict) → refuse b r Done ≡ Refused f → refuse b r w ≡ Refused f
 refused-last b r f w e = refused-next b r f Done w e (λ d. absurd (never f (sym d)))
+
+-- what was lent, after
+pub after-done : {A : Type 0} (old new : A) → after Done old new ≡ new
+after-done old new = refl
+
+pub after-refused : {A : Type 0} (r : Refusal) (old new : A) → after (Refused r) old new ≡ old
+after-refused r old new = refl
