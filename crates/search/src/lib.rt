@@ -12,10 +12,12 @@ ghost use Rattle.refusals.specs.declared.Verdict.the-variants.{Done};
 ghost use Rattle.tables.specs.Answers.{checkedOf};
 
 mod calls;
+mod lent;
 mod opening;
 mod records;
 
 pub use calls::search;
+pub use lent::search_lent;
 
 // The walk of one table, between two calls. Slots from n to 19 are zero.
 pub struct Record {

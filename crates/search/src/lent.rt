@@ -1,0 +1,25 @@
+// The search on a record that is lent to it.
+use crate::Answer;
+use crate::Record;
+use crate::calls::search;
+ghost use mathlib.Core.Path.{_≡_};
+ghost use Rattle.search.specs.Search.{outcomeOf, listOf};
+
+// One call with the record lent: it comes back moved on, or as it was where the call is refused.
+pub fn search_lent(
+    n: u64,
+    m: u64,
+    table: &[u64],
+    record: &mut Record,
+    budget: u64,
+    list: &mut [u64],
+) -> Answer
+    ensures { λ a. ⌜ (a ≡ outcomeOf n m (now (table .entry)) (now («record» .entry)) budget (now (list .entry)) .answer)
+        × (now («record» .exit) ≡ outcomeOf n m (now (table .entry)) (now («record» .entry)) budget (now (list .entry)) .«record»)
+        × (now (list .exit) ≡ listOf n m (now (table .entry)) (now («record» .entry)) budget (now (list .entry))) ⌝ }
+{
+    let r = *record;
+    let o = search(n, m, table, r, budget, list);
+    *record = o.record;
+    o.answer
+}
