@@ -6,7 +6,7 @@ use native.Mathlib.Numerals.{add-one}
 use native.Mathlib.Omega.{arith}
 use native.Mathlib.Nat.{pow-succ'}
 use lib.ListN.{length, getD, set, take, drop, length-append, length-take, length-drop, length-set, take-append-drop}
-use lib.Seq.{getD-drop, getD-take, take-suc, drop-cons, drop-drop, set-split, length-take-le, take-at, drop-at}
+use lib.Seq.{drop-length, getD-drop, getD-take, take-suc, drop-cons, drop-drop, set-split, length-take-le, take-at, drop-at}
 use Rattle.codec.specs.Codec.{valueOf, bytesOf, wordAt, wordsOf, bytesFrom, pasted, AllBelow}
 
 pub value-nil : valueOf [] ≡ 0
@@ -246,3 +246,25 @@ encode-turn l at i ws h g =
 
 pub pasted-length : (l l′ : List ℕ) (at k w : ℕ) → l′ ≡ pasted l at (bytesOf k w) → at + k ≤ length l → length l′ ≡ length l
 pasted-length l l′ at k w e h = let n = length-bytes k w in ap length e ∙ length-pasted l at (bytesOf k w) (omega (arith, n))
+
+-- words that take up all of the bytes
+pub paste-whole : (b ws : List ℕ) → length b ≡ 8 * length ws → pasted b 0 (bytesFrom ws) ≡ bytesFrom ws
+paste-whole b ws e =
+    let n : 0 + length (bytesFrom ws) ≡ length b = omega (arith, e, length-from ws) in
+    ap (λ (k : ℕ). bytesFrom ws ++ drop k b) n ∙ ap (λ (m : List ℕ). bytesFrom ws ++ m) (drop-length b) ∙ append-nil (bytesFrom ws)
+
+-- the first k of the words to which `decode` was lent the front
+pub decoded : (k : ℕ) (words b l : List ℕ) → k ≤ length words → l ≡ wordsOf (length (take k words)) b → take k (l ++ drop k words) ≡ wordsOf k b
+decoded k words b l h e =
+    let a : l ≡ wordsOf k b = e ∙ ap (λ (n : ℕ). wordsOf n b) (length-take-le k words h) in
+    take-at l (drop k words) k (ap length a ∙ length-words k b) ∙ a
+
+-- the bytes past j words are those of the words past j
+pub drop-bytes : (j k : ℕ) (l : List ℕ) → j ≤ k → length l ≡ 8 * k → AllBelow 256 l → drop (8 * j) l ≡ bytesFrom (drop j (wordsOf k l))
+drop-bytes j k l h e a =
+    let w = wordsOf k l in
+    let s : l ≡ bytesFrom (take j w) ++ bytesFrom (drop j w) =
+    sym (bytes-words k l e a) ∙ ap bytesFrom (sym (take-append-drop j w)) ∙ from-append (take j w) (drop j w)
+    in
+    let n : length (bytesFrom (take j w)) ≡ 8 * j = length-from (take j w) ∙ ap (λ (i : ℕ). 8 * i) (length-take-le j w (omega (arith, h, length-words k l))) in
+    ap (drop (8 * j)) s ∙ drop-at (bytesFrom (take j w)) (bytesFrom (drop j w)) (8 * j) n

@@ -1,0 +1,6 @@
+pub mod LayoutLaw
+pub mod SlotsLaw
+pub mod ChunkLaw
+pub mod PartLaw
+pub mod RowLaw
+pub mod VerdictLaw
