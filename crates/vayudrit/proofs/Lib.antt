@@ -4,3 +4,4 @@ pub mod ChunkLaw
 pub mod PartLaw
 pub mod RowLaw
 pub mod VerdictLaw
+pub mod OperationLaw

@@ -30,11 +30,11 @@ use Rattle.vayudrit.specs.Call.{wordsIn, recordIn, shaped, callVerdict, 
 use Rattle.vayudrit.specs.Chunks.{roomVerdict, callOf, foundOf}
 
 -- ---- what is refused before v is asked
-kept : (b : Bool) (r f : Refusal) (v w : Verdict) → (v ≡ Refused f → w ≡ Refused f) → refuse b r v ≡ Refused f → refuse b r w ≡ Refused f
+pub kept : (b : Bool) (r f : Refusal) (v w : Verdict) → (v ≡ Refused f → w ≡ Refused f) → refuse b r v ≡ Refused f → refuse b r w ≡ Refused f
 kept true r f v w g e = e
 kept false r f v w g e = g e
 
-not-refused : (f : Refusal) (w : Verdict) → Done ≡ Refused f → w ≡ Refused f
+pub not-refused : (f : Refusal) (w : Verdict) → Done ≡ Refused f → w ≡ Refused f
 not-refused f w e = let z : _≡_ {A = ℕ} 0 1 = cc in absurd (omega arith)
 
 number-pos : (f : Refusal) → numberOf f ≡ 0 → ⊥

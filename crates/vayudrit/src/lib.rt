@@ -15,6 +15,19 @@ ghost use Rattle.vayudrit.specs.Call.{shaped, callVerdict, recordBytes, 
 
 mod chunks;
 mod layout;
+mod operations;
+mod puts;
+
+pub use operations::vayudrit_balanced;
+pub use operations::vayudrit_check;
+pub use operations::vayudrit_coefficients;
+pub use operations::vayudrit_differences;
+pub use operations::vayudrit_evaluate;
+pub use operations::vayudrit_open;
+pub use operations::vayudrit_pack;
+pub use operations::vayudrit_place;
+pub use operations::vayudrit_point;
+pub use operations::vayudrit_unbalanced;
 
 // How many bytes a table of n unknowns has.
 fn table_bytes(n: u64) -> usize
