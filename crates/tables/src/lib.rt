@@ -11,6 +11,7 @@ mod rows;
 
 pub use checks::check;
 pub use evaluation::evaluate;
+pub use evaluation::value_at;
 pub use formulas::coefficients;
 pub use formulas::differences;
 pub use monomials::entry;
