@@ -23,13 +23,12 @@ use Rattle.tables.specs.Answers.{long, paired, checkedOf}
 use Rattle.walks.specs.declared.Report.{Report}
 use Rattle.walks.specs.Calls.{Trail, zerosIn, costIn, pointsIn, reportOf, listAfter}
 use Rattle.walks.proofs.CallLaw.{points-none, points-le, points-one, points-end, zeros-room, cost-most, at-end, after-length, after-front}
-use Rattle.walks.proofs.CostLaw.{cost-le}
 use Rattle.search.specs.declared.Record.{Record}
 use Rattle.search.specs.declared.Answer.{Answer}
 use Rattle.search.specs.declared.Answer.the-variants.{Ran, Refused}
 use Rattle.search.specs.declared.Outcome.{Outcome}
 use Rattle.search.specs.Opened.{openedAt}
-use Rattle.search.specs.Search.{trailOf, sameRecord, fits, answerFrom, outcomeOf, listOf}
+use Rattle.search.specs.Search.{trailOf, sameRecord, fits, ranOf, outcomeFrom, outcomeOf, listOf}
 use Rattle.search.proofs.VerdictLaw.{checked-next, fits-opened}
 use Rattle.vayudrit.specs.Chunks.{roomVerdict, callOf, foundOf, didOf, hasEnded, stopAfter, told}
 use Rattle.vayudrit.proofs.ChunkLaw.{moreReport, eqb-iff, firstPoints, firstFound, nextPoints, points-cut, zeros-cut, place-cut, report-cut, Over, points-over, zeros-over, report-over, ended-place}
@@ -52,11 +51,7 @@ module _ (n m : ℕ) (t : List ℕ) where
 
   -- outcome and listed points, given the verdict
   abbrev outFrom : Verdict → Record → ℕ → ℕ → Outcome
-  outFrom v s b c =
-      record {
-        answer = answerFrom v (reportOf T b c (s .place .0));
-        «record» = after v s (openedAt n m t (s .place .0 + pointsIn T b c (s .place .0)));
-      }
+  outFrom v s b c = outcomeFrom v s (ranOf n m t (s .place .0) b c)
 
   abbrev listFrom : Verdict → Record → ℕ → ℕ → List ℕ
   listFrom v s b c = after v [] (zerosIn T (s .place .0) (pointsIn T b c (s .place .0)))
@@ -124,7 +119,7 @@ module _ (n m : ℕ) (t : List ℕ) where
 
   cost-two : (p : ℕ) → T .cost p ≤ 2
   unfolding trailOf
-  cost-two p = cost-le 3 (omega arith) 2 p
+  cost-two p = omega arith
 
   few-on : (v : Verdict) (s : Record) (b c : ℕ) → (v ≡ verdict.Done → Allowed s) → didOf (outFrom v s b c .answer) .additions ≤ 2 * 3 ^ 20
   unfolding reportOf

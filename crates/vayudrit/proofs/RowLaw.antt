@@ -230,7 +230,7 @@ module _ (n m : ℕ) (t : List ℕ) (r : Record) (budget : ℕ) (l₀ : List ℕ
         pub row-again : (hasEnded (w .stop) ≡ false) × (0 < left - w .points) × (0 < q)
             → Kept (left - w .points) (at + w .found) (additions + w .additions) l′ (o .«record») × (0 < w .points)
         row-again c =
-            let y : Again x next →  Again o l′ = λ z. subst (λ (v : Outcome). Again v l′) (sym eo) (subst (Again x) (sym el) z) in
+            let y : Again x next → Again o l′ = λ z. subst (λ (v : Outcome). Again v l′) (sym eo) (subst (Again x) (sym el) z) in
             let v : w ≡ didOf (x .answer) = ew ∙ ap (λ (z : Outcome). didOf (z .answer)) eo in
             subst (λ (z : Report). Kept (left - z .points) (at + z .found) (additions + z .additions) l′ (o .«record») × (0 < z .points)) (sym ew)
             (y (again (subst (λ (z : Report). hasEnded (z .stop) ≡ false) v (c .0)) (subst (λ (z : Report). 0 < left - z .points) v (c .1))

@@ -22,7 +22,9 @@ use Rattle.walks.proofs.CallLaw.{after-front}
 use Rattle.codec.specs.Codec.{wordsOf, bytesFrom, pasted}
 use Rattle.codec.proofs.CodecLaw.{length-words, paste-none, from-nil}
 use Rattle.search.specs.declared.Record.{Record}
+use Rattle.search.specs.declared.Answer.the-variants as answer
 use Rattle.search.specs.declared.Outcome.{Outcome}
+use Rattle.search.specs.Opened.{openedAt}
 use Rattle.search.specs.Search.{trailOf, searchVerdict, answerFrom, outcomeOf, listOf, answerNumber}
 use Rattle.search.specs.Session.{listedOf}
 use Rattle.vayudrit.specs.Layout.{recordOf, recordWords}
@@ -113,24 +115,27 @@ module _ (n m a b c d : ℕ) where
       }
 
 -- ---- an outcome's bytes, by its verdict
-number-on : (v : Verdict) (r : Report) → answerNumber (answerFrom v r) ≡ codeOf v
-number-on Done r = refl
-number-on (Refused f) r = refl
+abbrev ran : Report → Record → Outcome
+ran r s = record { answer = answer.Ran r; «record» = s }
 
-record-on : (v : Verdict) (r : Report) (s : Record) (old : List ℕ) → recordBytes (answerFrom v r) s old ≡ after v old (recordBytes (answerFrom v r) s old)
-record-on Done r s old = refl
-record-on (Refused f) r s old = refl
+number-on : (v : Verdict) (r : Report) (s : Record) → answerNumber (answerFrom v (ran r s)) ≡ codeOf v
+number-on Done r s = refl
+number-on (Refused f) r s = refl
 
-answer-on : (v : Verdict) (r : Report) (s : Record) (old : List ℕ) → answerBytes (answerFrom v r) s old ≡ after v old (answerBytes (answerFrom v r) s old)
-answer-on Done r s old = refl
-answer-on (Refused f) r s old = refl
+record-on : (v : Verdict) (r : Report) (s z : Record) (old : List ℕ) → recordBytes (answerFrom v (ran r s)) z old ≡ after v old (recordBytes (answerFrom v (ran r s)) z old)
+record-on Done r s z old = refl
+record-on (Refused f) r s z old = refl
 
-list-on : (v : Verdict) (T : calls.Trail) (b p : ℕ) (ws l : List ℕ)
+answer-on : (v : Verdict) (r : Report) (s z : Record) (old : List ℕ) → answerBytes (answerFrom v (ran r s)) z old ≡ after v old (answerBytes (answerFrom v (ran r s)) z old)
+answer-on Done r s z old = refl
+answer-on (Refused f) r s z old = refl
+
+list-on : (v : Verdict) (T : calls.Trail) (b p : ℕ) (s : Record) (ws l : List ℕ)
     → pasted l 0 (bytesFrom (after v [] (zerosIn T p (pointsIn T b (length ws) p))))
-    ≡ after v l (pasted l 0 (bytesFrom (listedOf (answerFrom v (reportOf T b (length ws) p)) (after v ws (calls.listAfter T b p ws)))))
+    ≡ after v l (pasted l 0 (bytesFrom (listedOf (answerFrom v (ran (reportOf T b (length ws) p) s)) (after v ws (calls.listAfter T b p ws)))))
 unfolding reportOf
-list-on Done T b p ws l = ap (λ (z : List ℕ). pasted l 0 (bytesFrom z)) (sym (after-front T b p ws))
-list-on (Refused f) T b p ws l = ap (pasted l 0) from-nil ∙ sym (paste-none l 0)
+list-on Done T b p s ws l = ap (λ (z : List ℕ). pasted l 0 (bytesFrom z)) (sym (after-front T b p ws))
+list-on (Refused f) T b p s ws l = ap (pasted l 0) from-nil ∙ sym (paste-none l 0)
 
 module _ (n m : ℕ) (table rec : List ℕ) (budget : ℕ) (list answer : List ℕ) where
   abbrev judged : Verdict
@@ -170,12 +175,13 @@ module _ (n m : ℕ) (table rec : List ℕ) (budget : ℕ) (list answer : List �
       let k : length list / 8 ≡ length (wordsIn list) = sym (length-words (length list / 8) list) in
       let i : judged ≡ said = h .next said in
       let e : o ≡ given = eo ∙ ap₂ (λ (x : Record) (y : ℕ). callOf n m (wordsIn table) x budget y) er k in
-      let w = reportOf T budget (length (wordsIn list)) p in (
-        ec ∙ ap (λ (x : Outcome). answerNumber (x .answer)) e ∙ number-on said w ∙ sym (ap codeOf i),
-        ex ∙ ap (λ (x : Outcome). recordBytes (x .answer) (x .«record») rec) e ∙ record-on said w (given .«record») rec
+      let w = reportOf T budget (length (wordsIn list)) p in
+      let z = openedAt n m (wordsIn table) (p + pointsIn T budget (length (wordsIn list)) p) in (
+        ec ∙ ap (λ (x : Outcome). answerNumber (x .answer)) e ∙ number-on said w z ∙ sym (ap codeOf i),
+        ex ∙ ap (λ (x : Outcome). recordBytes (x .answer) (x .«record») rec) e ∙ record-on said w z (given .«record») rec
             ∙ sym (ap (λ (v : Verdict). after v rec (recordBytes (given .answer) (given .«record») rec)) i),
-        el ∙ ap₂ (λ (x : Record) (y : ℕ). pasted list 0 (bytesFrom (foundOf n m (wordsIn table) x budget y))) er k ∙ list-on said T budget p (wordsIn list) list
+        el ∙ ap₂ (λ (x : Record) (y : ℕ). pasted list 0 (bytesFrom (foundOf n m (wordsIn table) x budget y))) er k ∙ list-on said T budget p z (wordsIn list) list
             ∙ sym (ap (λ (v : Verdict). after v list (pasted list 0 (bytesFrom (listedOf (given .answer) (listOf n m (wordsIn table) (recordIn rec) budget (wordsIn list)))))) i),
-        ea ∙ ap (λ (x : Outcome). answerBytes (x .answer) (x .«record») answer) e ∙ answer-on said w (given .«record») answer
+        ea ∙ ap (λ (x : Outcome). answerBytes (x .answer) (x .«record») answer) e ∙ answer-on said w z (given .«record») answer
             ∙ sym (ap (λ (v : Verdict). after v answer (answerBytes (given .answer) (given .«record») answer)) i),
       )

@@ -3,7 +3,7 @@ use mathlib.Core.Bool.{Bool, true, false, not}
 use mathlib.Core.Path.{_≡_}
 use mathlib.Core.Logic.{_⊎_}
 use mathlib.Core.List.{List, []}
-use Prim.Native.Nat.{ℕ, _+_, _<_}
+use Prim.Native.Nat.{ℕ, _<_}
 use lib.Dec.{eqb, ltb}
 use Rattle.refusals.specs.declared.Refusal.the-variants as refusal
 use Rattle.refusals.specs.declared.Verdict.{Verdict}
@@ -14,13 +14,12 @@ use Rattle.tables.specs.Answers.{long, paired}
 use Rattle.walks.specs.declared.Report.{Report}
 use Rattle.walks.specs.declared.Stop.{Stop}
 use Rattle.walks.specs.declared.Stop.the-variants.{Ended, Full, Spent}
-use Rattle.walks.specs.Calls.{pick, pointsIn, zerosIn, reportOf}
+use Rattle.walks.specs.Calls.{pick, pointsIn, zerosIn}
 use Rattle.search.specs.declared.Record.{Record}
 use Rattle.search.specs.declared.Answer.{Answer}
 use Rattle.search.specs.declared.Answer.the-variants.{Ran, Refused}
 use Rattle.search.specs.declared.Outcome.{Outcome}
-use Rattle.search.specs.Opened.{openedAt}
-use Rattle.search.specs.Search.{trailOf, fits, answerFrom}
+use Rattle.search.specs.Search.{trailOf, fits, ranOf, outcomeFrom}
 
 -- the search's verdict, outcome and listed points, given the room of the list alone
 abbrev pub roomVerdict : ℕ → ℕ → List ℕ → Record → ℕ → ℕ → Verdict
@@ -31,11 +30,7 @@ roomVerdict n m t r b c =
     (refuse (not (fits n m t r)) refusal.Record (refuse (eqb b 0) refusal.Budget (refuse (eqb c 0) refusal.List verdict.Done)))))
 
 abbrev pub callOf : ℕ → ℕ → List ℕ → Record → ℕ → ℕ → Outcome
-callOf n m t r b c =
-    record {
-      answer = answerFrom (roomVerdict n m t r b c) (reportOf (trailOf n m t) b c (r .place .0));
-      «record» = after (roomVerdict n m t r b c) r (openedAt n m t (r .place .0 + pointsIn (trailOf n m t) b c (r .place .0)));
-    }
+callOf n m t r b c = outcomeFrom (roomVerdict n m t r b c) r (ranOf n m t (r .place .0) b c)
 
 abbrev pub foundOf : ℕ → ℕ → List ℕ → Record → ℕ → ℕ → List ℕ
 foundOf n m t r b c =

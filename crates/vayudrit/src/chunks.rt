@@ -10,16 +10,8 @@ ghost use mathlib.Core.Path.{_≡_};
 ghost use Prim.Native.Nat.{_+_, _-_, _*_, _/_, _<_, _≤_};
 ghost use lib.ListN.{length};
 ghost use Rattle.codec.specs.Codec.{wordsOf, bytesFrom, pasted};
-ghost use Rattle.search.specs.Search.{outcomeOf, listOf};
 ghost use Rattle.vayudrit.specs.Call.{wordsIn};
 ghost use Rattle.vayudrit.specs.Chunks.{callOf, foundOf, lesserOf, didOf, stopAfter, told, GoesOn};
-
-fn search(n: u64, m: u64, table: &[u64], r: Record, budget: u64, list: &mut [u64]) -> Outcome
-    ensures { λ o. ⌜ (o ≡ outcomeOf n m (now (table .entry)) r budget (now (list .entry)))
-        × (now (list .exit) ≡ listOf n m (now (table .entry)) r budget (now (list .entry))) ⌝ }
-{
-    Outcome { answer: Answer::Refused(refusals::Refusal::Size), record: r }
-}
 
 fn lesser(a: usize, b: usize) -> usize
     ensures { λ r. ⌜ (r ≡ lesserOf a b) × (r ≤ a) × (r ≤ b) ⌝ }
@@ -109,7 +101,7 @@ fn part(
 {
     let room = list.len() / 8 - at;
     let c = lesser(chunk.len(), room);
-    let o = search(n, m, table, r, left, &mut chunk[..c]);
+    let o = search::search(n, m, table, r, left, &mut chunk[..c]);
     let answer = o.answer;
     let this = did(answer);
     let k = this.found as usize;

@@ -12,7 +12,6 @@ ghost use mathlib.Core.Path.{_≡_};
 ghost use lib.ListN.{length};
 ghost use Rattle.refusals.specs.Refusal.{codeOf};
 ghost use Rattle.tables.specs.Answers.{checkedOf, packVerdict, packAfter, copyVerdict, differencesAfter, coefficientsAfter};
-ghost use Rattle.search.specs.Opened.{openOf};
 ghost use Rattle.vayudrit.specs.Operations.{evaluateCall, evaluateAfter, openCall, openAfter, convertCall, pointAfter, placeAfter, balancedAfter, unbalancedCall, unbalancedAfter};
 
 // Signed rows into a table of words.
@@ -104,7 +103,7 @@ pub extern "C" fn vayudrit_open(
         return refused;
     }
     let p = Place(place);
-    let o = open(n, m, table, p);
+    let o = search::open(n, m, table, p);
     let said = o.verdict;
     let number = refusals::code(said);
     if number != 0 {
@@ -176,10 +175,4 @@ pub extern "C" fn vayudrit_unbalanced(n: u64, number: i64, point: &mut [u64]) ->
     }
     let a = gray::from_balanced(n, number);
     put_point(a, point)
-}
-
-fn open(n: u64, m: u64, table: &[u64], place: Place) -> search::Opened
-    ensures { λ r. ⌜ r ≡ openOf n m (now (table .entry)) (place .0) ⌝ }
-{
-    search::Opened { verdict: refusals::Verdict::Refused(refusals::Refusal::Size), record: search::Record { n: 0, m: 0, place: Place(0), value: trits::Vector { high: 0, low: 0 }, slots: [trits::Vector { high: 0, low: 0 }; 20] } }
 }

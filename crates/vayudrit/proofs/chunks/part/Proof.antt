@@ -17,7 +17,7 @@ use Rattle.vayudrit.proofs.chunks.part.Lts as lts
 use Rattle.codec.proofs.encode.Reads as encode-reads
 use Rattle.vayudrit.proofs.chunks.did.Reads as did-reads
 use Rattle.vayudrit.proofs.chunks.lesser.Reads as lesser-reads
-use Rattle.vayudrit.proofs.chunks.search.Reads as search-reads
+use Rattle.search.proofs.search.Reads as search-reads
 
 -- src/chunks.rt:109:16
 sub-room : tie.Need-sub-room

@@ -21,7 +21,7 @@ use Rattle.vayudrit.proofs.operations.vayudrit_open.Reads as reads
 use Rattle.vayudrit.proofs.operations.vayudrit_open.Lts as lts
 use Rattle.refusals.proofs.code.Reads as code-reads
 use Rattle.vayudrit.proofs.layout.put_record.Reads as put-record-reads
-use Rattle.vayudrit.proofs.operations.open.Reads as open-reads
+use Rattle.search.proofs.open.Reads as open-reads
 use Rattle.vayudrit.proofs.puts.room_for.Reads as room-for-reads
 
 -- src/operations.rt:101:9

@@ -42,7 +42,7 @@ returns : tie.Need-returns
 returns c =
     let s = c .before .before .before in
     let e = c .before .a .given .1 in
-    (sym (ap balancedNumber e), set-one (s .args .number .now) _ (s .pre) ∙ ap (λ (z : ℤ). z ∷ []) (toZ-ofZ w64 _ (c .known-told .given .0 .1)) ∙ sym (ap (λ (z : BalancedAnswer). balancedPut z (s .args .number .now)) e))
+    (sym (ap balancedNumber e), set-one (s .args .number .now) _ (s .pre) ∙ ap (λ (z : ℤ). z ∷ []) (toZ-ofZ w64 _ (record { sfits = c .known-told .given .0 .1 })) ∙ sym (ap (λ (z : BalancedAnswer). balancedPut z (s .args .number .now)) e))
 
 -- src/puts.rt:93:1
 returns-2 : tie.Need-returns-2
