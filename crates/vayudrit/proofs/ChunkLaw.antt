@@ -1,21 +1,21 @@
 -- A call cut in two: what a call with less room did, and then a call with what is left of the budget and of the room.
-use mathlib.Core.Path.{_≡_, refl, sym, ap, ap₂, subst, _∙_}
-use mathlib.Core.Bool.{Bool, true, false, false≢true}
-use mathlib.Core.Logic.{inl, inr, ⊎-elim, by-cases, _⊎_}
-use mathlib.Core.List.{List, [], _∷_, _++_, append-nil}
-use Prim.Native.Nat.{ℕ, zero, suc, _+_, _-_, _*_, _^_, _≤_, _<_}
+use mathlib.Core.Path.{_≡_, refl, sym, ap, ap₂, _∙_}
+use mathlib.Core.Bool.{Bool, true, false≢true}
+use mathlib.Core.Logic.{⊎-elim, by-cases, _⊎_}
+use mathlib.Core.List.{_++_}
+use Prim.Native.Nat.{ℕ, _+_, _-_, _≤_}
 use native.Mathlib.Nat.{add-zero}
 use native.Mathlib.Decide.{ℕ-discrete}
 use native.Mathlib.Omega.{arith}
-use lib.Dec.{eqb, leb, ltb}
+use lib.Dec.{eqb}
 use lib.ListN.{length, length-append}
 use borrow.Author.Tests.{eq-eqb, ne-eqb}
 use Rattle.gray.specs.declared.Place.{Place}
 use Rattle.walks.specs.declared.Report.{Report}
 use Rattle.walks.specs.declared.Stop.{Stop}
 use Rattle.walks.specs.declared.Stop.the-variants.{Ended, Full, Spent}
-use Rattle.walks.specs.Calls.{Trail, pick, zerosIn, costIn, pointsIn, stopAt, reportIn, reportOf}
-use Rattle.walks.proofs.CallLaw.{zeros-add, cost-add, points-none, points-full, points-le, points-one, points-end, zeros-room, at-end, at-full, at-spent}
+use Rattle.walks.specs.Calls.{Trail, pick, zerosIn, costIn, pointsIn, stopAt, reportOf}
+use Rattle.walks.proofs.CallLaw.{zeros-add, cost-add, points-none, points-full, zeros-room, at-end, at-full, at-spent}
 use Rattle.walks.proofs.JoinLaw.{join}
 use Rattle.vayudrit.specs.Chunks.{hasEnded, stopAfter}
 

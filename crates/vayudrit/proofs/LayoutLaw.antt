@@ -1,12 +1,11 @@
 -- A record as words: one slot after another, and the round trips.
-use mathlib.Core.Path.{_≡_, refl, sym, ap, subst, _∙_}
-use mathlib.Core.Bool.{Bool, true, false}
+use mathlib.Core.Path.{_≡_, refl, sym, ap, _∙_}
 use mathlib.Core.List.{List, [], _∷_, _++_, append-assoc, append-nil}
-use Prim.Native.Nat.{ℕ, zero, suc, _+_, _-_, _*_, _/_, _%_, _≤_, _<_}
+use Prim.Native.Nat.{ℕ, zero, suc, _+_, _*_, _<_}
 use native.Mathlib.Numerals.{add-one}
 use native.Mathlib.Omega.{arith}
-use lib.ListN.{length, getD, set, take, drop, length-append, length-set, length-drop, take-append-drop}
-use lib.Seq.{take-suc, take-suc-set, drop-cons, drop-drop, take-set-le, length-take-le, take-all, drop-length, take-at, take-append-seam}
+use lib.ListN.{length, getD, set, take, drop, length-set, length-drop}
+use lib.Seq.{take-suc, take-suc-set, drop-cons, take-all, drop-length}
 use Rattle.trits.specs.declared.Vector.{Vector}
 use Rattle.search.specs.declared.Record.{Record}
 use Rattle.vayudrit.specs.Layout.{vectorsOf, wordsFrom, recordOf, recordWords}

@@ -1,28 +1,25 @@
 -- The other operations: what is refused before an operation is asked stays refused, and its answer's number and words are those of its verdict.
 use mathlib.Core.Path.{_≡_, refl, sym, ap, _∙_}
-use mathlib.Core.Bool.{Bool, not}
+use mathlib.Core.Bool.{not}
 use mathlib.Core.List.{List, [], _∷_}
-use Prim.Native.Nat.{ℕ, _≤_}
+use Prim.Native.Nat.{ℕ}
 use native.Mathlib.Omega.{arith}
 use lib.Dec.{eqb, ltb}
 use lib.IntN.{ℤ}
 use lib.ListN.{length, set}
-use borrow.Author.Tests.{eqb-true, eq-eqb, ne-eqb, le-ltb, ltb-false, not-false}
+use borrow.Author.Tests.{eqb-true, not-false}
 use Rattle.refusals.specs.declared.Refusal.{Refusal}
 use Rattle.refusals.specs.declared.Refusal.the-variants.{Size, Length}
 use Rattle.refusals.specs.declared.Verdict.{Verdict}
 use Rattle.refusals.specs.declared.Verdict.the-variants.{Done, Refused}
-use Rattle.refusals.specs.Refusal.{numberOf, codeOf, refuse, sized, sizedUnknowns, after}
-use Rattle.refusals.proofs.RefusalLaw.{done-test, done-next, refuse-none, Within, sized-within, sized-next, sized-done}
+use Rattle.refusals.specs.Refusal.{codeOf, refuse, after}
+use Rattle.refusals.proofs.RefusalLaw.{done-test, done-next, refuse-none, sized-within, sized-next, sized-done}
 use Rattle.trits.specs.declared.Vector.{Vector}
 use Rattle.gray.specs.Answers.{pointFrom, placeFrom, balancedFrom}
 use Rattle.tables.specs.Answers.{valued, evaluatedCode}
-use Rattle.search.specs.declared.Record.{Record}
-use Rattle.search.specs.declared.Opened.{Opened}
-use Rattle.vayudrit.specs.Layout.{recordWords}
 use Rattle.vayudrit.specs.Operations.{room, single, vectorWords}
 use Rattle.vayudrit.specs.Puts.{pointNumber, pointPut, placeNumber, placePut, balancedNumber, balancedPut, valuePut}
-use Rattle.vayudrit.proofs.VerdictLaw.{kept, not-refused, code-zero}
+use Rattle.vayudrit.proofs.VerdictLaw.{kept, not-refused}
 
 -- ---- what every return says of the number and of what was lent
 abbrev pub Meets : {A : Type 0} → Verdict → ℕ → A → A → A → Type 0

@@ -1,21 +1,21 @@
 -- A search cut in two: a search with less room, and then one with what is left; a refusal is the same with any room.
 use mathlib.Core.Path.{_≡_, refl, sym, ap, ap₂, subst, _∙_}
-use mathlib.Core.Bool.{Bool, true, false, not, true≢false, _&&_}
-use mathlib.Core.Logic.{inl, inr, ⊎-elim, by-cases, _⊎_}
-use mathlib.Core.List.{List, [], _∷_, _++_, append-nil}
-use Prim.Native.Nat.{ℕ, zero, suc, _+_, _-_, _*_, _/_, _^_, _≤_, _<_}
-use native.Mathlib.Nat.{add-zero, pow-le-pow-right}
+use mathlib.Core.Bool.{Bool, true, false, not, true≢false}
+use mathlib.Core.Logic.{by-cases, _⊎_}
+use mathlib.Core.List.{List, [], _++_}
+use Prim.Native.Nat.{ℕ, _+_, _-_, _*_, _^_, _≤_, _<_}
+use native.Mathlib.Nat.{pow-le-pow-right}
 use native.Mathlib.Decide.{ℕ-discrete}
 use native.Mathlib.Omega.{arith}
 use lib.Dec.{eqb, leb, ltb}
-use lib.ListN.{length, take, drop, length-append}
+use lib.ListN.{length, take, drop}
 use lib.Seq.{length-take-le, take-append-le}
-use borrow.Author.Tests.{eq-eqb, ne-eqb, leb-true, not-false}
+use borrow.Author.Tests.{ne-eqb, leb-true, not-false}
 use Rattle.refusals.specs.declared.Refusal.the-variants as refusal
 use Rattle.refusals.specs.declared.Verdict.{Verdict}
 use Rattle.refusals.specs.declared.Verdict.the-variants as verdict
 use Rattle.refusals.specs.Refusal.{refuse, sized, after}
-use Rattle.refusals.proofs.RefusalLaw.{done-test, done-next, refuse-none, Within, sized-within, sized-next, sized-done}
+use Rattle.refusals.proofs.RefusalLaw.{done-test, done-next, refuse-none, sized-within, sized-next, sized-done}
 use Rattle.trits.proofs.Bits.{and-left}
 use Rattle.tables.specs.Monomials.{countOf}
 use Rattle.tables.specs.Words.{legalFront}
@@ -31,7 +31,7 @@ use Rattle.search.specs.Opened.{openedAt}
 use Rattle.search.specs.Search.{trailOf, sameRecord, fits, ranOf, outcomeFrom, outcomeOf, listOf}
 use Rattle.search.proofs.VerdictLaw.{checked-next, fits-opened}
 use Rattle.vayudrit.specs.Chunks.{roomVerdict, callOf, foundOf, didOf, hasEnded, stopAfter, told}
-use Rattle.vayudrit.proofs.ChunkLaw.{moreReport, eqb-iff, firstPoints, firstFound, nextPoints, points-cut, zeros-cut, place-cut, report-cut, Over, points-over, zeros-over, report-over, ended-place}
+use Rattle.vayudrit.proofs.ChunkLaw.{moreReport, eqb-iff, zeros-cut, place-cut, report-cut, points-over, zeros-over, report-over}
 
 -- what an outcome is after p points, a additions and f entries
 abbrev pub moreAnswer : ℕ → ℕ → ℕ → Answer → Answer

@@ -2,7 +2,7 @@
 use mathlib.Core.Path.{_≡_, refl, sym, ap, ap₂, subst, _∙_}
 use mathlib.Core.Bool.{Bool, true, false}
 use mathlib.Core.Logic.{inl, inr, ⊎-elim, _⊎_}
-use mathlib.Core.List.{List, [], _∷_, _++_}
+use mathlib.Core.List.{List}
 use Prim.Native.Nat.{ℕ, _+_, _-_, _*_, _/_, _^_, _≤_, _<_}
 use native.Mathlib.Omega.{arith}
 use lib.Dec.{ltb}
@@ -18,7 +18,7 @@ use Rattle.search.specs.declared.Answer.the-variants.{Ran, Refused}
 use Rattle.search.specs.declared.Outcome.{Outcome}
 use Rattle.vayudrit.specs.Chunks.{callOf, foundOf, pickNumber, lesserOf, didOf, hasEnded, stopAfter, told}
 use Rattle.vayudrit.proofs.ChunkLaw.{moreReport, same-report}
-use Rattle.vayudrit.proofs.PartLaw.{moreAnswer, more, found-is, room-le, budget-le, few, few-less, Finished, wholeOf, finished, goes}
+use Rattle.vayudrit.proofs.PartLaw.{moreAnswer, more, found-is, room-le, budget-le, few, few-less, finished, goes}
 
 none-before : (a : Answer) → moreAnswer 0 0 0 a ≡ a
 none-before (Ran r) = ap Ran (same-report (moreReport 0 0 0 r) r refl (omega arith) (omega arith) (omega arith))

@@ -1,11 +1,11 @@
 -- The verdict of a call: what 1 and 2 refuse is refused, and what they pass is the search's verdict.
-use mathlib.Core.Path.{_≡_, refl, sym, ap, ap₂, subst, _∙_}
+use mathlib.Core.Path.{_≡_, refl, sym, ap, ap₂, _∙_}
 use mathlib.Core.Bool.{Bool, true, false, not}
-use mathlib.Core.List.{List, [], _∷_, _++_}
-use Prim.Native.Nat.{ℕ, _+_, _*_, _/_, _%_, _≤_, _<_}
+use mathlib.Core.List.{List, []}
+use Prim.Native.Nat.{ℕ, _+_, _*_, _/_, _%_}
 use native.Mathlib.Omega.{arith}
 use lib.Dec.{eqb, ltb}
-use lib.ListN.{length, take, drop}
+use lib.ListN.{length}
 use borrow.Author.Tests.{eqb-true, eq-eqb, ne-eqb, not-false}
 use Rattle.refusals.specs.declared.Refusal.{Refusal}
 use Rattle.refusals.specs.declared.Refusal.the-variants.{Size, Length}
@@ -19,17 +19,16 @@ use Rattle.walks.specs.declared.Report.{Report}
 use Rattle.walks.specs.Calls.{reportOf, pointsIn, zerosIn}
 use Rattle.walks.specs.Calls as calls
 use Rattle.walks.proofs.CallLaw.{after-front}
-use Rattle.codec.specs.Codec.{wordsOf, bytesFrom, pasted}
+use Rattle.codec.specs.Codec.{bytesFrom, pasted}
 use Rattle.codec.proofs.CodecLaw.{length-words, paste-none, from-nil}
 use Rattle.search.specs.declared.Record.{Record}
 use Rattle.search.specs.declared.Answer.the-variants as answer
 use Rattle.search.specs.declared.Outcome.{Outcome}
 use Rattle.search.specs.Opened.{openedAt}
-use Rattle.search.specs.Search.{trailOf, searchVerdict, answerFrom, outcomeOf, listOf, answerNumber}
+use Rattle.search.specs.Search.{trailOf, searchVerdict, answerFrom, listOf, answerNumber}
 use Rattle.search.specs.Session.{listedOf}
-use Rattle.vayudrit.specs.Layout.{recordOf, recordWords}
 use Rattle.vayudrit.specs.Call.{wordsIn, recordIn, shaped, callVerdict, doneOf, recordBytes, answerBytes, recordAfter, listAfter, answerAfter}
-use Rattle.vayudrit.specs.Chunks.{roomVerdict, callOf, foundOf}
+use Rattle.vayudrit.specs.Chunks.{callOf, foundOf}
 
 -- ---- what is refused before v is asked
 pub kept : (b : Bool) (r f : Refusal) (v w : Verdict) → (v ≡ Refused f → w ≡ Refused f) → refuse b r v ≡ Refused f → refuse b r w ≡ Refused f

@@ -1,9 +1,5 @@
 -- `vayudrit::finish` meets its contract: each arm is a clause of the definitions.
-use mathlib.Core.Path.{_≡_, refl, sym, ap, _∙_}
-use mathlib.Core.List.{List, _++_}
-use Prim.Native.Nat.{ℕ, _+_, _-_, _*_, _/_, _≤_, _<_}
-use native.Mathlib.Omega.{arith}
-use lib.ListN.{length, take, drop}
+use mathlib.Core.Path.{sym, ap, _∙_}
 use Rattle.search.specs.declared.Answer.{Answer}
 use Rattle.search.specs.Search.{answerNumber}
 use Rattle.vayudrit.specs.Call.{recordBytes, answerBytes}

@@ -1,13 +1,8 @@
 -- `vayudrit::shapes` meets its contract: one question after another.
-use mathlib.Core.Path.{_≡_, refl, sym, ap, _∙_}
-use mathlib.Core.List.{List, _++_}
-use Prim.Native.Nat.{ℕ, _+_, _-_, _*_, _/_, _≤_, _<_}
+use mathlib.Core.Path.{sym, _∙_}
 use native.Mathlib.Omega.{arith}
-use lib.ListN.{length, take, drop}
-use mathlib.Core.Bool.{Bool, not}
 use borrow.Author.Tests.{lt-ltb, le-ltb}
 use Rattle.vayudrit.proofs.VerdictLaw.{wrong-table, wrong-record, wrong-list, wrong-answer, right}
-use Rattle.tables.specs.Monomials.{countOf}
 use borrow.Author.Needs.{needs}
 use Rattle.vayudrit.proofs.shapes.Statement.{statement}
 use Rattle.vayudrit.proofs.shapes.Tie as tie

@@ -1,9 +1,7 @@
 -- `vayudrit::table_bytes` meets its contract: the number of monomials is below 232.
-use mathlib.Core.Path.{_≡_, refl, sym, ap, _∙_}
-use mathlib.Core.List.{List, _++_}
-use Prim.Native.Nat.{ℕ, _+_, _-_, _*_, _/_, _≤_, _<_}
+use mathlib.Core.Path.{refl}
+use Prim.Native.Nat.{_-_}
 use native.Mathlib.Omega.{arith}
-use lib.ListN.{length, take, drop}
 use Rattle.tables.specs.Monomials.{countOf}
 use Rattle.tables.proofs.IndexLaw.{product-le, count-le}
 use borrow.Author.Needs.{needs}

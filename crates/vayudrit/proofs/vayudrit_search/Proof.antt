@@ -1,11 +1,9 @@
 -- `vayudrit::vayudrit_search` meets its contract: the lengths are refused, or the search over the words says all.
-use mathlib.Core.Path.{_≡_, refl, sym, ap, _∙_}
-use mathlib.Core.List.{List, _++_}
-use Prim.Native.Nat.{ℕ, _+_, _-_, _*_, _/_, _≤_, _<_}
+use mathlib.Core.Path.{sym, _∙_}
 use native.Mathlib.Omega.{arith}
-use lib.ListN.{length, take, drop}
+use lib.ListN.{length}
 use Rattle.tables.proofs.IndexLaw.{count-le}
-use Rattle.vayudrit.proofs.VerdictLaw.{code-zero, Shaped, shapes-done, call-refused, call-done}
+use Rattle.vayudrit.proofs.VerdictLaw.{code-zero, shapes-done, call-refused, call-done}
 use borrow.Author.Needs.{needs}
 use Rattle.vayudrit.proofs.vayudrit_search.Statement.{statement}
 use Rattle.vayudrit.proofs.vayudrit_search.Tie as tie

@@ -1,9 +1,9 @@
 -- `vayudrit::chunks::goes_on` meets its contract: each return says which question decided.
-use mathlib.Core.Path.{sym, ap, refl, _∙_}
+use mathlib.Core.Path.{ap}
 use mathlib.Core.Bool.{true≢false, false≢true}
 use mathlib.Core.Logic.{inl, inr}
 use native.Mathlib.Omega.{arith}
-use Rattle.vayudrit.specs.Chunks.{hasEnded, GoesOn}
+use Rattle.vayudrit.specs.Chunks.{hasEnded}
 use borrow.Author.Needs.{needs}
 use Rattle.vayudrit.proofs.chunks.goes_on.Statement.{statement}
 use Rattle.vayudrit.proofs.chunks.goes_on.Tie as tie

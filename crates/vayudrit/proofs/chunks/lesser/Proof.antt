@@ -1,9 +1,6 @@
 -- `vayudrit::chunks::lesser` meets its contract: the test decides.
-use mathlib.Core.Path.{sym, ap}
-use mathlib.Core.Bool.{Bool}
 use native.Mathlib.Omega.{arith}
 use borrow.Author.Tests.{lt-ltb, le-ltb}
-use Rattle.vayudrit.specs.Chunks.{pickNumber}
 use Rattle.vayudrit.proofs.chunks.lesser.Statement.{statement}
 use Rattle.vayudrit.proofs.chunks.lesser.Tie as tie
 use Rattle.vayudrit.proofs.chunks.lesser.Reads as reads

@@ -1,11 +1,11 @@
 -- `vayudrit::chunks::over_bytes` meets its contract: the words of the table, and then the row over them.
-use mathlib.Core.Path.{_≡_, refl, sym, ap, _∙_}
-use mathlib.Core.List.{List, _++_}
-use Prim.Native.Nat.{ℕ, _+_, _-_, _*_, _/_, _≤_, _<_}
+use mathlib.Core.Path.{sym, ap, _∙_}
+use mathlib.Core.List.{List}
+use Prim.Native.Nat.{ℕ, _/_}
 use native.Mathlib.Omega.{arith}
-use lib.ListN.{length, take, drop}
+use lib.ListN.{length}
 use lib.Seq.{length-take-le}
-use Rattle.codec.specs.Codec.{wordsOf, bytesFrom, pasted}
+use Rattle.codec.specs.Codec.{bytesFrom, pasted}
 use Rattle.codec.proofs.CodecLaw.{length-words, decoded}
 use Rattle.vayudrit.specs.Chunks.{callOf, foundOf}
 use borrow.Author.Needs.{needs}

@@ -1,5 +1,5 @@
 -- `vayudrit::chunks::part` meets its contract: the search's list is the front of the chunk, and its first entries are encoded.
-use mathlib.Core.Path.{_≡_, refl, sym, ap, _∙_}
+use mathlib.Core.Path.{sym, ap, _∙_}
 use mathlib.Core.List.{List, _++_}
 use Prim.Native.Nat.{ℕ, _*_}
 use native.Mathlib.Omega.{arith}
@@ -7,8 +7,8 @@ use lib.ListN.{length, take, drop, length-append, length-drop}
 use lib.Seq.{length-take-le}
 use Rattle.walks.specs.declared.Report.{Report}
 use Rattle.codec.specs.Codec.{bytesFrom, pasted}
-use Rattle.vayudrit.specs.Chunks.{callOf, foundOf, didOf}
-use Rattle.vayudrit.proofs.PartLaw.{Chunk, chunk-is}
+use Rattle.vayudrit.specs.Chunks.{callOf, foundOf}
+use Rattle.vayudrit.proofs.PartLaw.{chunk-is}
 use borrow.Author.Needs.{needs}
 use Rattle.vayudrit.proofs.chunks.part.Statement.{statement}
 use Rattle.vayudrit.proofs.chunks.part.Tie as tie

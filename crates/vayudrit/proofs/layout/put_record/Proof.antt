@@ -1,15 +1,15 @@
 -- `vayudrit::layout::put_record` meets its contract: after i turns the first 5 + 2 i words are written.
-use mathlib.Core.Path.{_≡_, refl, sym, ap, subst, _∙_}
-use mathlib.Core.List.{List, [], _∷_, _++_, append-assoc, append-nil}
-use Prim.Native.Nat.{ℕ, suc, _≤_, _<_, _-_, _+_, _*_, _/_}
+use mathlib.Core.Path.{_≡_, sym, ap, _∙_}
+use mathlib.Core.List.{List, _++_}
+use Prim.Native.Nat.{ℕ, _≤_, _-_, _+_, _*_}
 use native.Mathlib.Omega.{arith}
 use borrow.Author.Needs.{needs}
-use lib.ListN.{length, take, drop, getD, set, length-set}
-use lib.Seq.{take-all, take-suc, take-suc-set}
+use lib.ListN.{length, take, getD, set, length-set}
+use lib.Seq.{take-all}
 use Rattle.trits.specs.declared.Vector.{Vector}
 use Rattle.vayudrit.proofs.SlotsLaw.{slots-long}
-use Rattle.vayudrit.specs.Layout.{vectorsOf, wordsFrom, recordOf, recordWords}
-use Rattle.vayudrit.proofs.LayoutLaw.{front, five, length-five, read-turn, read-end, write-turn, words-nil}
+use Rattle.vayudrit.specs.Layout.{wordsFrom}
+use Rattle.vayudrit.proofs.LayoutLaw.{front, five, length-five, write-turn, words-nil}
 use Rattle.vayudrit.proofs.layout.put_record.Statement.{statement}
 use Rattle.vayudrit.proofs.layout.put_record.Tie as tie
 use Rattle.vayudrit.proofs.layout.put_record.Reads as reads

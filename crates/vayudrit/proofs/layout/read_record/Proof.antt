@@ -1,13 +1,6 @@
 -- `vayudrit::layout::read_record` meets its contract: decoded, and then read.
-use mathlib.Core.Path.{_≡_, refl, sym, ap, _∙_}
-use mathlib.Core.List.{List, [], _∷_, _++_}
-use Prim.Native.Nat.{ℕ, _≤_, _<_, _-_, _+_, _*_, _/_}
-use native.Mathlib.Omega.{arith}
-use lib.ListN.{length}
-use Rattle.walks.specs.Calls.{stopNumber}
-use Rattle.codec.specs.Codec.{wordsOf, bytesFrom, pasted}
-use Rattle.codec.proofs.CodecLaw.{paste-whole}
-use Rattle.vayudrit.specs.Layout.{recordOf, recordWords, answerWords}
+use mathlib.Core.Path.{ap, _∙_}
+use Rattle.vayudrit.specs.Layout.{recordOf}
 use borrow.Author.Needs.{needs}
 use Rattle.vayudrit.proofs.layout.read_record.Statement.{statement}
 use Rattle.vayudrit.proofs.layout.read_record.Tie as tie

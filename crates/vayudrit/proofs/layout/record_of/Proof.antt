@@ -1,15 +1,13 @@
 -- `vayudrit::layout::record_of` meets its contract: after i turns the first i slots are read.
-use mathlib.Core.Path.{_≡_, refl, sym, ap, subst, _∙_}
-use mathlib.Core.List.{List, [], _∷_, _++_, append-assoc, append-nil}
-use Prim.Native.Nat.{ℕ, suc, _≤_, _<_, _-_, _+_, _*_, _/_}
+use mathlib.Core.Path.{_≡_, refl, ap, _∙_}
+use mathlib.Core.List.{List, _++_}
+use Prim.Native.Nat.{_≤_, _-_, _+_, _*_}
 use native.Mathlib.Omega.{arith}
 use borrow.Author.Needs.{needs}
-use lib.ListN.{length, take, drop, getD, set, length-set}
-use lib.Seq.{take-all, take-suc, take-suc-set}
+use lib.ListN.{length, take, drop, getD, length-set}
 use Rattle.trits.specs.declared.Vector.{Vector}
-use Rattle.vayudrit.proofs.SlotsLaw.{slots-long}
-use Rattle.vayudrit.specs.Layout.{vectorsOf, wordsFrom, recordOf, recordWords}
-use Rattle.vayudrit.proofs.LayoutLaw.{front, read-turn, read-end, write-turn, words-nil}
+use Rattle.vayudrit.specs.Layout.{vectorsOf}
+use Rattle.vayudrit.proofs.LayoutLaw.{read-turn, read-end}
 use Rattle.vayudrit.proofs.layout.record_of.Statement.{statement}
 use Rattle.vayudrit.proofs.layout.record_of.Tie as tie
 use Rattle.vayudrit.proofs.layout.record_of.Reads as reads

@@ -1,13 +1,10 @@
 -- `vayudrit::layout::write_answer` meets its contract: five words, encoded.
-use mathlib.Core.Path.{_≡_, refl, sym, ap, _∙_}
-use mathlib.Core.List.{List, [], _∷_, _++_}
-use Prim.Native.Nat.{ℕ, _≤_, _<_, _-_, _+_, _*_, _/_}
-use native.Mathlib.Omega.{arith}
-use lib.ListN.{length}
-use Rattle.walks.specs.Calls.{stopNumber}
-use Rattle.codec.specs.Codec.{wordsOf, bytesFrom, pasted}
+use mathlib.Core.Path.{ap, _∙_}
+use mathlib.Core.List.{[], _∷_}
+use Prim.Native.Nat.{ℕ}
+use Rattle.codec.specs.Codec.{bytesFrom, pasted}
 use Rattle.codec.proofs.CodecLaw.{paste-whole}
-use Rattle.vayudrit.specs.Layout.{recordOf, recordWords, answerWords}
+use Rattle.vayudrit.specs.Layout.{answerWords}
 use borrow.Author.Needs.{needs}
 use Rattle.vayudrit.proofs.layout.write_answer.Statement.{statement}
 use Rattle.vayudrit.proofs.layout.write_answer.Tie as tie

@@ -1,13 +1,12 @@
 -- `vayudrit::layout::write_record` meets its contract: written, and then encoded.
-use mathlib.Core.Path.{_≡_, refl, sym, ap, _∙_}
-use mathlib.Core.List.{List, [], _∷_, _++_}
-use Prim.Native.Nat.{ℕ, _≤_, _<_, _-_, _+_, _*_, _/_}
+use mathlib.Core.Path.{_≡_, ap, _∙_}
+use mathlib.Core.List.{List}
+use Prim.Native.Nat.{ℕ}
 use native.Mathlib.Omega.{arith}
 use lib.ListN.{length}
-use Rattle.walks.specs.Calls.{stopNumber}
-use Rattle.codec.specs.Codec.{wordsOf, bytesFrom, pasted}
+use Rattle.codec.specs.Codec.{bytesFrom, pasted}
 use Rattle.codec.proofs.CodecLaw.{paste-whole}
-use Rattle.vayudrit.specs.Layout.{recordOf, recordWords, answerWords}
+use Rattle.vayudrit.specs.Layout.{recordWords}
 use borrow.Author.Needs.{needs}
 use Rattle.vayudrit.proofs.layout.write_record.Statement.{statement}
 use Rattle.vayudrit.proofs.layout.write_record.Tie as tie

@@ -1,12 +1,9 @@
 -- `vayudrit::operations::vayudrit_balanced` meets its contract: the room is refused, or the answer says all.
-use mathlib.Core.Path.{_≡_, refl, sym, ap, _∙_}
-use mathlib.Core.List.{List, [], _∷_}
-use Prim.Native.Nat.{ℕ}
-use native.Mathlib.Omega.{arith}
+use mathlib.Core.Path.{sym, ap, _∙_}
+use mathlib.Core.List.{[], _∷_}
 use lib.ListN.{length}
-use Rattle.gray.specs.Numbers.{pointOf, placeOf}
-use Rattle.gray.specs.Balanced.{balancedOf, unbalancedOf}
-use Rattle.gray.specs.Answers.{convertVerdict, balancedVerdict}
+use Rattle.gray.specs.Balanced.{balancedOf}
+use Rattle.gray.specs.Answers.{convertVerdict}
 use Rattle.gray.specs.declared.BalancedAnswer.{BalancedAnswer}
 use Rattle.vayudrit.specs.Puts.{balancedNumber, balancedPut}
 use Rattle.vayudrit.specs.Operations.{single}

@@ -1,9 +1,5 @@
 -- `vayudrit::operations::vayudrit_check` meets its contract: the number of the verdict.
-use mathlib.Core.Path.{_≡_, refl, sym, ap, _∙_}
-use mathlib.Core.List.{List, [], _∷_}
-use Prim.Native.Nat.{ℕ}
-use native.Mathlib.Omega.{arith}
-use lib.ListN.{length}
+use mathlib.Core.Path.{ap, _∙_}
 use Rattle.refusals.specs.Refusal.{codeOf}
 use borrow.Author.Needs.{needs}
 use Rattle.vayudrit.proofs.operations.vayudrit_check.Statement.{statement}

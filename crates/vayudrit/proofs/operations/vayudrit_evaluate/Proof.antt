@@ -1,8 +1,5 @@
 -- `vayudrit::operations::vayudrit_evaluate` meets its contract: the room is refused, or the answer says all.
-use mathlib.Core.Path.{_≡_, refl, sym, ap, _∙_}
-use mathlib.Core.List.{List, [], _∷_}
-use Prim.Native.Nat.{ℕ}
-use native.Mathlib.Omega.{arith}
+use mathlib.Core.Path.{sym, ap, _∙_}
 use lib.ListN.{length}
 use Rattle.tables.specs.declared.Evaluated.{Evaluated}
 use Rattle.tables.specs.Words.{valuesAt}

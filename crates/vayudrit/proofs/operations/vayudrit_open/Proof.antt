@@ -1,17 +1,13 @@
 -- `vayudrit::operations::vayudrit_open` meets its contract: the room is refused, then what opening refuses, or the record is written.
-use mathlib.Core.Path.{_≡_, refl, sym, ap, _∙_}
-use mathlib.Core.List.{List, [], _∷_}
-use Prim.Native.Nat.{ℕ}
-use native.Mathlib.Omega.{arith}
+use mathlib.Core.Path.{_≡_, sym, ap, _∙_}
 use lib.ListN.{length}
 use Rattle.refusals.specs.declared.Verdict.{Verdict}
 use Rattle.refusals.specs.declared.Verdict.the-variants.{Done}
 use Rattle.refusals.specs.Refusal.{codeOf, after}
-use Rattle.search.specs.declared.Record.{Record}
 use Rattle.search.specs.declared.Opened.{Opened}
 use Rattle.search.specs.Opened.{openedAt, openVerdict, noRecord}
 use Rattle.vayudrit.specs.Layout.{recordWords}
-use Rattle.vayudrit.specs.Operations.{room, vectorWords}
+use Rattle.vayudrit.specs.Operations.{room}
 use Rattle.vayudrit.proofs.VerdictLaw.{code-zero}
 use Rattle.vayudrit.proofs.OperationLaw.{early, moved, kept-refused, room-refused, room-done}
 use borrow.Author.Needs.{needs}

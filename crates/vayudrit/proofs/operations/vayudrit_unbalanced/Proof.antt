@@ -1,15 +1,12 @@
 -- `vayudrit::operations::vayudrit_unbalanced` meets its contract: the room is refused, or the answer says all.
-use mathlib.Core.Path.{_≡_, refl, sym, ap, _∙_}
-use mathlib.Core.List.{List, [], _∷_}
-use Prim.Native.Nat.{ℕ}
-use native.Mathlib.Omega.{arith}
+use mathlib.Core.Path.{sym, ap, _∙_}
+use mathlib.Core.List.{[], _∷_}
 use lib.IntN.{ℤ}
 use lib.ListN.{length}
 use mir.Syntax.{w64}
 use mir.ValLaws.{toZ-ofZ}
-use Rattle.gray.specs.Numbers.{pointOf, placeOf}
-use Rattle.gray.specs.Balanced.{balancedOf, unbalancedOf}
-use Rattle.gray.specs.Answers.{convertVerdict, balancedVerdict, pointFrom}
+use Rattle.gray.specs.Balanced.{unbalancedOf}
+use Rattle.gray.specs.Answers.{balancedVerdict, pointFrom}
 use Rattle.gray.specs.declared.PointAnswer.{PointAnswer}
 use Rattle.vayudrit.specs.Puts.{pointNumber, pointPut}
 use Rattle.vayudrit.specs.Operations.{single}

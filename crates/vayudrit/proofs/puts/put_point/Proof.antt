@@ -1,9 +1,5 @@
 -- `vayudrit::puts::put_point` meets its contract: each arm is a clause of the definitions.
-use mathlib.Core.Path.{_≡_, refl, sym, ap, _∙_}
-use mathlib.Core.List.{List, [], _∷_}
-use Prim.Native.Nat.{ℕ}
-use native.Mathlib.Omega.{arith}
-use lib.ListN.{length}
+use mathlib.Core.Path.{sym, ap, _∙_}
 use Rattle.gray.specs.declared.PointAnswer.{PointAnswer}
 use Rattle.vayudrit.specs.Puts.{pointNumber, pointPut}
 use Rattle.vayudrit.proofs.OperationLaw.{set-one}

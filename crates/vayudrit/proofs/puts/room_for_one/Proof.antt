@@ -1,9 +1,4 @@
 -- `vayudrit::puts::room_for_one` meets its contract: one question after another.
-use mathlib.Core.Path.{_≡_, refl, sym, ap, _∙_}
-use mathlib.Core.List.{List, [], _∷_}
-use Prim.Native.Nat.{ℕ}
-use native.Mathlib.Omega.{arith}
-use lib.ListN.{length}
 use borrow.Author.Tests.{eq-eqb, ne-eqb, lt-ltb, le-ltb}
 use Rattle.vayudrit.proofs.puts.room_for_one.Statement.{statement}
 use Rattle.vayudrit.proofs.puts.room_for_one.Tie as tie
