@@ -231,6 +231,17 @@ static void expect(const char *what, uint64_t got, uint64_t wanted)
     }
 }
 
+/* Whether the record is what opening at its place gives: another place may have the same value and slots. */
+static int legal_record(unsigned n, unsigned m)
+{
+    if (vayudrit_open(n, m, differences, VAYUDRIT_TABLE_WORDS(n), get(record, 2), opened, VAYUDRIT_RECORD_WORDS) != 0)
+        return 0;
+    for (size_t i = 0; i < VAYUDRIT_RECORD_WORDS; i++)
+        if (get(record, i) != opened[i])
+            return 0;
+    return 1;
+}
+
 static void search_refusals(void)
 {
     static const int8_t edge[6] = {2, 0, 0, 1, 1, 1};
@@ -263,8 +274,8 @@ static void search_refusals(void)
     for (size_t i = 0; i < 8 * VAYUDRIT_RECORD_WORDS; i++) {
         record[i] ^= 1;
         memcpy(old_record, record, sizeof record);
-        uint64_t c = SEARCH(2, 1, 96, 360, 1, 8, 40);
-        expect("one bit of the record", c, 5);
+        if (!legal_record(2, 1))
+            expect("one bit of the record", SEARCH(2, 1, 96, 360, 1, 8, 40), 5);
         record[i] ^= 1;
     }
     memcpy(old_record, record, sizeof record);
