@@ -1,0 +1,69 @@
+-- `vayudrit::finish` meets its contract: each arm is a clause of the definitions.
+use mathlib.Core.Path.{sym, ap, _∙_}
+use Rattle.search.specs.declared.Answer.{Answer}
+use Rattle.search.specs.Search.{answerNumber}
+use Rattle.vayudrit.specs.Call.{recordBytes, answerBytes}
+use borrow.Author.Needs.{needs}
+use Rattle.vayudrit.proofs.finish.Statement.{statement}
+use Rattle.vayudrit.proofs.finish.Tie as tie
+use Rattle.vayudrit.proofs.finish.Reads as reads
+use Rattle.vayudrit.proofs.finish.Lts as lts
+use Rattle.refusals.proofs.number.Reads as number-reads
+use Rattle.vayudrit.proofs.layout.write_answer.Reads as write-answer-reads
+use Rattle.vayudrit.proofs.layout.write_record.Reads as write-record-reads
+
+-- src/lib.rt:70:21
+enum-known-a : tie.Need-enum-known-a
+enum-known-a c = search needs
+
+-- src/lib.rt:71:13
+write-record-requires : tie.Need-write-record-requires
+write-record-requires c κs = search needs
+
+-- src/lib.rt:72:13
+write-answer-requires : tie.Need-write-answer-requires
+write-answer-requires c κs = search needs
+
+-- src/lib.rt:75:25
+enum-known-a-2 : tie.Need-enum-known-a-2
+enum-known-a-2 c = search needs
+
+-- src/lib.rt:75:31
+number-requires : tie.Need-number-requires
+number-requires c κs = search needs
+
+-- src/lib.rt:61:1
+same-length : tie.Need-same-length
+same-length c = search needs
+
+-- src/lib.rt:61:1
+same-length-2 : tie.Need-same-length-2
+same-length-2 c = search needs
+
+-- src/lib.rt:61:1
+returns : tie.Need-returns
+returns c =
+    let a = c .before .before .before .before .before .before .before .before .before .before .before .before .before .before .args in
+    let e = c .before .before .before .before .before .before .before .before .before .a .given .1 in (
+      sym (ap answerNumber e),
+      c .before .before .before .before .before .before .write-record .ensures ∙ sym (ap (λ (x : Answer). recordBytes x (a .o .«record») (a .«record» .now)) e),
+      c .before .before .write-answer .ensures ∙ sym (ap (λ (x : Answer). answerBytes x (a .o .«record») (a .answer .now)) e),
+    )
+
+-- src/lib.rt:61:1
+returns-2 : tie.Need-returns-2
+returns-2 c = search needs
+
+pub finish-spec : {M : Type 1} → statement M
+finish-spec =
+    tie.close
+    (tie.spec
+    enum-known-a
+    write-record-requires
+    write-answer-requires
+    enum-known-a-2
+    number-requires
+    same-length
+    same-length-2
+    returns
+    returns-2)

@@ -1,0 +1,5 @@
+pub mod Layout
+pub mod Call
+pub mod Operations
+pub mod Chunks
+pub mod Puts

@@ -1,0 +1,166 @@
+/*
+ * vayudrit.h: all common zeros of systems of polynomials of degree at most 2 over F3, for C and C++.
+ *
+ * A system has n unknowns x0 .. x(n-1), 1 to 20, and m equations, 1 to 64. Its 3^n points are walked in ternary Gray
+ * order; the search lists each point at which all equations are 0 modulo 3. Link with libvayudrit.a and nothing else
+ * than a C library (memcpy and memset are all that it asks for). No function allocates, keeps state, prints or aborts,
+ * and all may be called from several threads at once as long as no two calls share a buffer that one of them writes.
+ *
+ * WORDS AND TABLES
+ *
+ * A trit is two bits, high and low: 0 is 00, 1 is 10, 2 is 11. A vector of m trits is a high word and a low word of 64
+ * bits; equation e sits at bit e of both. A pair of words is legal when no low bit stands without its high bit and all
+ * bits from m upward are 0.
+ *
+ * Monomials stand in this order: the constant; x0 to x(n-1); then for i = 0, 1, .. the products xi*xj for j = i to n-1.
+ * There are N = VAYUDRIT_MONOMIALS(n) of them. A word table has 2 N words, high then low for each monomial. There are
+ * two kinds, of the same size and order: coefficients, and the differences that the search walks by.
+ *
+ * PLACES AND POINTS
+ *
+ * A point is numbered x0 + 3 x1 + 9 x2 + .. , 0 to 3^n - 1. A place is a position in the walk, counted from 0; place
+ * and point are different numbers and are never taken for each other. 3^n is the place after the last.
+ *
+ * BUFFERS
+ *
+ * Every buffer belongs to the caller: it is read or written during the call, never kept. It is a pointer and, right
+ * after it, a count of ELEMENTS (bytes for uint8_t, words for uint64_t). A pointer must not be null, even where the
+ * count is 0, must be aligned for its type, and must have room for the whole count. Two buffers of one call must not
+ * overlap if one of them is written (is not const). The library cannot check these four; all else it checks.
+ *
+ * REFUSALS
+ *
+ * Each function returns 0, or the number of a refusal. A refusal alters no byte of any buffer. If several apply, the
+ * smallest number is returned: each is asked of all arguments before the next.
+ */
+#ifndef VAYUDRIT_H
+#define VAYUDRIT_H
+
+#include <stddef.h>
+#include <stdint.h>
+
+#ifdef __cplusplus
+extern "C" {
+#endif
+
+/* Limits and sizes. */
+#define VAYUDRIT_MAX_UNKNOWNS 20
+#define VAYUDRIT_MAX_EQUATIONS 64
+#define VAYUDRIT_MONOMIALS(n) (1 + 2 * (size_t)(n) + (size_t)(n) * ((size_t)(n) - 1) / 2)
+#define VAYUDRIT_TABLE_WORDS(n) (2 * VAYUDRIT_MONOMIALS(n))
+#define VAYUDRIT_TABLE_BYTES(n) (16 * VAYUDRIT_MONOMIALS(n))
+#define VAYUDRIT_MAX_TABLE_WORDS 462
+#define VAYUDRIT_RECORD_WORDS 45
+#define VAYUDRIT_RECORD_BYTES 360
+#define VAYUDRIT_ANSWER_WORDS 5
+#define VAYUDRIT_ANSWER_BYTES 40
+
+/* What a function returns. */
+#define VAYUDRIT_DONE 0           /* nothing was refused */
+#define VAYUDRIT_REFUSED_SIZE 1   /* n is not 1 to 20, or m is not 1 to 64 */
+#define VAYUDRIT_REFUSED_LENGTH 2 /* a buffer is not of the exact length, or the list's bytes are no multiple of 8 */
+#define VAYUDRIT_REFUSED_PAIR 3   /* a table holds an illegal pair */
+#define VAYUDRIT_REFUSED_RANGE 4  /* a place for opening above 3^n; a place or point to convert or to evaluate at of 3^n
+                                     or more; a balanced number outside its ends */
+#define VAYUDRIT_REFUSED_RECORD 5 /* the record's n or m is not the table's, its place is above 3^n, or it is not the
+                                     record that opening this table at its place gives */
+#define VAYUDRIT_REFUSED_BUDGET 6 /* the budget is 0 */
+#define VAYUDRIT_REFUSED_LIST 7   /* the list has no entry */
+
+/* Why a search stopped: word 0 of its answer. */
+#define VAYUDRIT_ENDED 0 /* the place is 3^n: every point was examined */
+#define VAYUDRIT_FULL 1  /* every list entry is used */
+#define VAYUDRIT_SPENT 2 /* the budget of points is used up */
+
+/*
+ * The search, over bytes. Every word is 8 bytes, the lowest first, whatever the machine.
+ *
+ *   table    VAYUDRIT_TABLE_BYTES(n) bytes: a table of differences.
+ *   record   VAYUDRIT_RECORD_BYTES bytes: the words n, m, place, value high, value low, then high and low of 20 slots.
+ *            It must be as vayudrit_open or an earlier search of this table left it.
+ *   budget   the most points to examine, any number but 0.
+ *   list     a multiple of 8 bytes, at least 8, as many as you like: one entry of 8 bytes for each zero found.
+ *   answer   VAYUDRIT_ANSWER_BYTES bytes, written whole: the words stop, place, points, additions, found.
+ *
+ * On 0: the points from the record's place on were examined, one after the other, until the place was 3^n (ended),
+ * every list entry was used (full) or the budget was used up (spent), asked in this order after each point; ended is
+ * also asked before the first. The record is moved on: it is the one that opening at its new place gives, so calling
+ * again goes on where this call stopped. The answer's place is the record's place, also when ended; points and
+ * additions are those of this call. The first `found` entries of the list are the zeros among the examined places, as
+ * points, in the order of the walk; the bytes after them are as they were. No zero found is no refusal.
+ * Refusals: 1, 2, 3, 5, 6, 7.
+ *
+ * Time: a call first checks the table and the record (some microseconds), then takes nanoseconds a point. A list longer
+ * than 1024 entries is filled 1024 at a time, and the record is checked again for each 1024 found.
+ */
+uint64_t vayudrit_search(uint64_t n, uint64_t m, const uint8_t *table, size_t table_bytes, uint8_t *record,
+                         size_t record_bytes, uint64_t budget, uint8_t *list, size_t list_bytes, uint8_t *answer,
+                         size_t answer_bytes);
+
+/*
+ * Signed coefficients as a word table. rows has m rows of N numbers, row after row in the order of the equations; each
+ * number is taken as its remainder 0, 1 or 2 modulo 3 (-1 is 2, -128 is 1). table has 2 N words, written whole.
+ * Refusals: 1, 2.
+ */
+uint64_t vayudrit_pack(uint64_t n, uint64_t m, const int8_t *rows, size_t rows_count, uint64_t *table,
+                       size_t table_words);
+
+/* Whether a word table, of either kind, has its length and only legal pairs. Refusals: 1, 2, 3. */
+uint64_t vayudrit_check(uint64_t n, uint64_t m, const uint64_t *table, size_t table_words);
+
+/* The table of differences of a coefficient table, written whole. Refusals: 1, 2, 3. */
+uint64_t vayudrit_differences(uint64_t n, uint64_t m, const uint64_t *coefficients, size_t coefficients_words,
+                              uint64_t *table, size_t table_words);
+
+/* The coefficient table of a table of differences, written whole. Every legal table has one. Refusals: 1, 2, 3. */
+uint64_t vayudrit_coefficients(uint64_t n, uint64_t m, const uint64_t *table, size_t table_words,
+                               uint64_t *coefficients, size_t coefficients_words);
+
+/*
+ * The value of each equation at a point, from a coefficient table: value has 2 words, high and low. All equations are 0
+ * exactly if the high word is 0. Refusals: 1, 2 (value_words is not 2, too), 3, 4.
+ */
+uint64_t vayudrit_evaluate(uint64_t n, uint64_t m, const uint64_t *coefficients, size_t coefficients_words,
+                           uint64_t point, uint64_t *value, size_t value_words);
+
+/*
+ * The record of a table of differences at any place from 0 to 3^n: VAYUDRIT_RECORD_WORDS words, in the order that
+ * vayudrit_search has them in. On a machine with the lowest byte first these words are the search's bytes as they
+ * stand; elsewhere write each word as 8 bytes, the lowest first. Refusals: 1, 2 (record_words is not 45, too), 3, 4.
+ */
+uint64_t vayudrit_open(uint64_t n, uint64_t m, const uint64_t *table, size_t table_words, uint64_t place,
+                       uint64_t *record, size_t record_words);
+
+/* The point at a place, and the place of a point: 1 word. Refusals: 1, 2 (the count is not 1), 4. */
+uint64_t vayudrit_point(uint64_t n, uint64_t place, uint64_t *point, size_t point_words);
+uint64_t vayudrit_place(uint64_t n, uint64_t point, uint64_t *place, size_t place_words);
+
+/*
+ * Balanced numbers: a point with each digit 2 read as -1, so a signed number from -(3^n - 1) / 2 to (3^n - 1) / 2; and
+ * the way back. 1 number each. Refusals: 1, 2 (the count is not 1), 4.
+ */
+uint64_t vayudrit_balanced(uint64_t n, uint64_t point, int64_t *number, size_t number_count);
+uint64_t vayudrit_unbalanced(uint64_t n, int64_t number, uint64_t *point, size_t point_words);
+
+#ifdef __cplusplus
+}
+#endif
+
+/*
+ * EXAMPLE (examples/first.c): the pairs of colours that differ, x0*x0 + x0*x1 + x1*x1 + 2 = 0.
+ *
+ *   static const int8_t rows[6] = {2, 0, 0, 1, 1, 1};
+ *   uint64_t c[VAYUDRIT_TABLE_WORDS(2)], d[VAYUDRIT_TABLE_WORDS(2)], r[VAYUDRIT_RECORD_WORDS];
+ *   uint8_t table[VAYUDRIT_TABLE_BYTES(2)], record[VAYUDRIT_RECORD_BYTES], answer[VAYUDRIT_ANSWER_BYTES], list[8 * 8];
+ *
+ *   vayudrit_pack(2, 1, rows, 6, c, VAYUDRIT_TABLE_WORDS(2));
+ *   vayudrit_differences(2, 1, c, VAYUDRIT_TABLE_WORDS(2), d, VAYUDRIT_TABLE_WORDS(2));
+ *   vayudrit_open(2, 1, d, VAYUDRIT_TABLE_WORDS(2), 0, r, VAYUDRIT_RECORD_WORDS);
+ *   .. put the words of d into table and those of r into record, the lowest byte first ..
+ *   do
+ *       vayudrit_search(2, 1, table, sizeof table, record, sizeof record, 4, list, sizeof list, answer, sizeof answer);
+ *   while (answer[0] != VAYUDRIT_ENDED);
+ *
+ * lists the points 1, 2, 5, then 3, 7, then 6: with a budget of 4 points it takes three calls.
+ */
+#endif

@@ -1,0 +1,29 @@
+#!/usr/bin/env bash
+# The C interface: writes the static library, compiles the example and the test as C99 and as C++, and runs them.
+set -e
+cd "$(dirname "$0")/.."
+out=$(mktemp -d)
+trap 'rm -rf "$out"' EXIT
+rt staticlib vayudrit
+lib=target/staticlib/libvayudrit.a
+
+# What it asks of the program that links it: memcpy, memset and nothing else.
+if nm -u "$lib" | grep -v -e ':$' -e '^$' -e ' memcpy$' -e ' memset$' -e ' memmove$' -e ' memcmp$' -e ' bcmp$'; then
+    echo "undefined symbols" >&2
+    exit 1
+fi
+
+warn="-O2 -Wall -Wextra -Werror -pedantic -Iinclude"
+gcc -std=c99 $warn examples/first.c "$lib" -o "$out/first"
+g++ -x c++ -std=c++11 $warn examples/first.c -x none "$lib" -o "$out/first++"
+for program in first first++; do
+    "$out/$program" | diff - examples/first.out
+done
+
+gcc -std=c99 $warn tests/interface.c "$lib" -o "$out/interface"
+gcc -std=c99 -g -fsanitize=address,undefined -Iinclude tests/interface.c "$lib" -o "$out/interface-checked"
+gcc -std=c99 -static $warn tests/interface.c "$lib" -o "$out/interface-static"
+for program in interface interface-checked interface-static; do
+    "$out/$program"
+done
+echo "the C interface: all as expected"

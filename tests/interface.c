@@ -1,0 +1,330 @@
+/* The C interface held to plain arithmetic: random systems, every function, every refusal, lists longer than a chunk.
+   Nothing here uses words or differences: a system is its signed rows, a point its digits. */
+#include "vayudrit.h"
+
+#include <stdio.h>
+#include <stdlib.h>
+#include <string.h>
+
+static int faults;
+
+static void fault(const char *what, long run)
+{
+    if (faults++ < 20)
+        printf("%s differs (run %ld)\n", what, run);
+}
+
+static uint64_t seed = 88172645463325252ull;
+
+static uint64_t rnd(void)
+{
+    seed ^= seed << 13;
+    seed ^= seed >> 7;
+    seed ^= seed << 17;
+    return seed;
+}
+
+static void put(uint8_t *b, size_t i, uint64_t w)
+{
+    for (size_t k = 0; k < 8; k++)
+        b[8 * i + k] = (uint8_t)(w >> (8 * k));
+}
+
+static uint64_t get(const uint8_t *b, size_t i)
+{
+    uint64_t w = 0;
+    for (size_t k = 8; k-- > 0;)
+        w = w << 8 | b[8 * i + k];
+    return w;
+}
+
+static uint64_t power3(unsigned k)
+{
+    uint64_t p = 1;
+    while (k-- > 0)
+        p *= 3;
+    return p;
+}
+
+/* The point at a place, digit by digit. */
+static uint64_t point_at(unsigned n, uint64_t place)
+{
+    uint64_t point = 0;
+    for (unsigned k = n; k-- > 0;) {
+        unsigned here = (unsigned)(place / power3(k) % 3), above = (unsigned)(place / power3(k + 1) % 3);
+        point = 3 * point + (here + 3 - above) % 3;
+    }
+    return point;
+}
+
+/* One row at a point, modulo 3. */
+static unsigned value(unsigned n, const int8_t *row, uint64_t point)
+{
+    int x[20], sum = row[0];
+    for (unsigned i = 0; i < n; i++)
+        x[i] = (int)(point / power3(i) % 3);
+    const int8_t *c = row + 1;
+    for (unsigned i = 0; i < n; i++)
+        sum += *c++ * x[i];
+    for (unsigned i = 0; i < n; i++)
+        for (unsigned j = i; j < n; j++)
+            sum += *c++ * x[i] * x[j];
+    return (unsigned)(((sum % 3) + 3) % 3);
+}
+
+static int zero(unsigned n, unsigned m, const int8_t *rows, uint64_t point)
+{
+    for (unsigned e = 0; e < m; e++)
+        if (value(n, rows + e * VAYUDRIT_MONOMIALS(n), point) != 0)
+            return 0;
+    return 1;
+}
+
+/* Additions of a place: 0, 1 at a power of three, else 2. */
+static unsigned cost(uint64_t place)
+{
+    if (place == 0)
+        return 0;
+    while (place % 3 == 0)
+        place /= 3;
+    return place == 1 ? 1 : 2;
+}
+
+static int8_t rows[64 * 231];
+static uint64_t coefficients[VAYUDRIT_MAX_TABLE_WORDS], differences[VAYUDRIT_MAX_TABLE_WORDS], back[VAYUDRIT_MAX_TABLE_WORDS];
+static uint64_t opened[VAYUDRIT_RECORD_WORDS];
+static uint8_t table[8 * VAYUDRIT_MAX_TABLE_WORDS + 16], record[VAYUDRIT_RECORD_BYTES + 8], answer[VAYUDRIT_ANSWER_BYTES + 8];
+static uint8_t list[8 * 20000], old_list[8 * 20000], old_record[VAYUDRIT_RECORD_BYTES + 8], old_answer[VAYUDRIT_ANSWER_BYTES + 8];
+
+/* Makes the tables of the system in `rows` and opens it at a place. */
+static void prepare(unsigned n, unsigned m, uint64_t place, long run)
+{
+    size_t words = VAYUDRIT_TABLE_WORDS(n);
+    if (vayudrit_pack(n, m, rows, m * VAYUDRIT_MONOMIALS(n), coefficients, words) != 0)
+        fault("pack", run);
+    if (vayudrit_check(n, m, coefficients, words) != 0)
+        fault("check", run);
+    if (vayudrit_differences(n, m, coefficients, words, differences, words) != 0)
+        fault("differences", run);
+    if (vayudrit_coefficients(n, m, differences, words, back, words) != 0 || memcmp(back, coefficients, 8 * words) != 0)
+        fault("coefficients", run);
+    if (vayudrit_open(n, m, differences, words, place, opened, VAYUDRIT_RECORD_WORDS) != 0)
+        fault("open", run);
+    for (size_t i = 0; i < words; i++)
+        put(table, i, differences[i]);
+    for (size_t i = 0; i < VAYUDRIT_RECORD_WORDS; i++)
+        put(record, i, opened[i]);
+}
+
+/* One call, and the same by plain arithmetic; what the call left of the list and the record is compared whole. */
+static uint64_t call(unsigned n, unsigned m, uint64_t budget, size_t entries, long run)
+{
+    size_t words = VAYUDRIT_TABLE_WORDS(n);
+    uint64_t end = power3(n), place = get(record, 2), points = 0, additions = 0, found = 0, stop = 2;
+    for (size_t i = 0; i < 8 * entries + 8; i++)
+        list[i] = old_list[i] = (uint8_t)rnd();
+    uint64_t c = vayudrit_search(n, m, table, 8 * words, record, VAYUDRIT_RECORD_BYTES, budget, list, 8 * entries, answer,
+                                 VAYUDRIT_ANSWER_BYTES);
+    for (;;) {
+        if (place == end) {
+            stop = 0;
+            break;
+        }
+        if (found == entries) {
+            stop = 1;
+            break;
+        }
+        if (points == budget) {
+            stop = 2;
+            break;
+        }
+        if (zero(n, m, rows, point_at(n, place)))
+            put(old_list, found++, point_at(n, place));
+        additions += cost(place);
+        points++;
+        place++;
+    }
+    if (c != 0 || get(answer, 0) != stop || get(answer, 1) != place || get(answer, 2) != points
+        || get(answer, 3) != additions || get(answer, 4) != found)
+        fault("answer", run);
+    if (memcmp(list, old_list, 8 * entries + 8) != 0)
+        fault("list", run);
+    if (vayudrit_open(n, m, differences, words, place, opened, VAYUDRIT_RECORD_WORDS) != 0)
+        fault("open after", run);
+    for (size_t i = 0; i < VAYUDRIT_RECORD_WORDS; i++)
+        if (get(record, i) != opened[i])
+            fault("record", run);
+    return stop;
+}
+
+static void systems(void)
+{
+    long calls[3] = {0, 0, 0};
+    for (long run = 0; run < 3000; run++) {
+        unsigned n = 1 + (unsigned)(rnd() % (run % 50 == 0 ? 7 : 5)), m = 1 + (unsigned)(rnd() % (run % 4 == 0 ? 64 : 4));
+        for (size_t i = 0; i < m * VAYUDRIT_MONOMIALS(n); i++)
+            rows[i] = run % 7 == 0 ? 0 : (int8_t)rnd();
+        uint64_t start = run % 3 == 0 ? 0 : rnd() % (power3(n) + 1), stop;
+        prepare(n, m, start, run);
+        uint64_t x = rnd() % power3(n), v[2];
+        if (vayudrit_evaluate(n, m, coefficients, VAYUDRIT_TABLE_WORDS(n), x, v, 2) != 0)
+            fault("evaluate", run);
+        for (unsigned e = 0; e < m; e++)
+            if ((v[0] >> e & 1) + (v[1] >> e & 1) != value(n, rows + e * VAYUDRIT_MONOMIALS(n), x))
+                fault("value", run);
+        do {
+            uint64_t budget = run % 11 == 0 ? UINT64_MAX : 1 + rnd() % 400;
+            stop = call(n, m, budget, 1 + rnd() % (run % 5 == 0 ? 2500 : 60), run);
+            calls[stop]++;
+        } while (stop != VAYUDRIT_ENDED);
+        if (call(n, m, 1, 1, run) != VAYUDRIT_ENDED)
+            fault("ended again", run);
+    }
+    printf("calls that ended %ld, filled the list %ld, spent the budget %ld\n", calls[0], calls[1], calls[2]);
+}
+
+/* A list of more than several chunks. */
+static void long_list(void)
+{
+    memset(rows, 0, sizeof rows);
+    prepare(9, 3, 0, -1);
+    if (call(9, 3, UINT64_MAX, 19683, -1) != VAYUDRIT_ENDED)
+        fault("all zeros", -1);
+    prepare(9, 3, 0, -2);
+    if (call(9, 3, 4096, 4096, -2) != VAYUDRIT_FULL)
+        fault("full and spent at once", -2);
+    if (call(9, 3, 4096, 5000, -3) != VAYUDRIT_SPENT)
+        fault("spent with a full chunk", -3);
+    if (call(9, 3, 11491, 11491, -4) != VAYUDRIT_ENDED)
+        fault("ended, full and spent at once", -4);
+}
+
+static void numbers(void)
+{
+    for (unsigned n = 1; n <= 7; n++)
+        for (uint64_t p = 0; p < power3(n); p++) {
+            uint64_t x, q;
+            int64_t b, sum = 0;
+            if (vayudrit_point(n, p, &x, 1) != 0 || x != point_at(n, p))
+                fault("point", (long)p);
+            if (vayudrit_place(n, x, &q, 1) != 0 || q != p)
+                fault("place", (long)p);
+            for (unsigned k = n; k-- > 0;)
+                sum = 3 * sum + (x / power3(k) % 3 == 2 ? -1 : (int64_t)(x / power3(k) % 3));
+            if (vayudrit_balanced(n, x, &b, 1) != 0 || b != sum)
+                fault("balanced", (long)p);
+            if (vayudrit_unbalanced(n, b, &q, 1) != 0 || q != x)
+                fault("unbalanced", (long)p);
+        }
+}
+
+static void expect(const char *what, uint64_t got, uint64_t wanted)
+{
+    if (got != wanted) {
+        faults++;
+        printf("%s: %llu instead of %llu\n", what, (unsigned long long)got, (unsigned long long)wanted);
+    }
+    if (memcmp(record, old_record, sizeof record) != 0 || memcmp(list, old_list, 800) != 0
+        || memcmp(answer, old_answer, sizeof answer) != 0) {
+        faults++;
+        printf("%s: a refusal altered something\n", what);
+    }
+}
+
+/* Whether the record is what opening at its place gives: another place may have the same value and slots. */
+static int legal_record(unsigned n, unsigned m)
+{
+    if (vayudrit_open(n, m, differences, VAYUDRIT_TABLE_WORDS(n), get(record, 2), opened, VAYUDRIT_RECORD_WORDS) != 0)
+        return 0;
+    for (size_t i = 0; i < VAYUDRIT_RECORD_WORDS; i++)
+        if (get(record, i) != opened[i])
+            return 0;
+    return 1;
+}
+
+static void search_refusals(void)
+{
+    static const int8_t edge[6] = {2, 0, 0, 1, 1, 1};
+    memcpy(rows, edge, sizeof edge);
+    prepare(2, 1, 4, -5);
+    memcpy(old_record, record, sizeof record);
+    memcpy(old_list, list, sizeof list);
+    memcpy(old_answer, answer, sizeof answer);
+#define SEARCH(n, m, tb, rb, b, lb, ab) vayudrit_search(n, m, table, tb, record, rb, b, list, lb, answer, ab)
+    expect("n = 0", SEARCH(0, 1, 96, 360, 1, 8, 40), 1);
+    expect("n = 21", SEARCH(21, 1, 96, 360, 1, 8, 40), 1);
+    expect("n = 2^32 + 2", SEARCH(4294967298u, 1, 96, 360, 1, 8, 40), 1);
+    expect("m = 0", SEARCH(2, 0, 96, 360, 1, 8, 40), 1);
+    expect("m = 65, and all lengths wrong", SEARCH(2, 65, 1, 1, 0, 0, 1), 1);
+    expect("table one word short", SEARCH(2, 1, 88, 360, 1, 8, 40), 2);
+    expect("table one byte long", SEARCH(2, 1, 97, 360, 1, 8, 40), 2);
+    expect("record short", SEARCH(2, 1, 96, 359, 1, 8, 40), 2);
+    expect("record long", SEARCH(2, 1, 96, 368, 1, 8, 40), 2);
+    expect("list of 9 bytes", SEARCH(2, 1, 96, 360, 1, 9, 40), 2);
+    expect("answer long", SEARCH(2, 1, 96, 360, 1, 8, 48), 2);
+    expect("answer short, budget 0, no list", SEARCH(2, 1, 96, 360, 0, 0, 32), 2);
+    expect("no list", SEARCH(2, 1, 96, 360, 1, 0, 40), 7);
+    expect("budget 0, no list", SEARCH(2, 1, 96, 360, 0, 0, 40), 6);
+    expect("n is not the record's", SEARCH(1, 1, 48, 360, 1, 8, 40), 5);
+    expect("m is not the record's, budget 0", SEARCH(2, 2, 96, 360, 0, 8, 40), 5);
+    table[8] ^= 2;
+    expect("a low bit alone", SEARCH(2, 1, 96, 360, 1, 8, 40), 3);
+    expect("a low bit alone, and a record of another length", SEARCH(2, 1, 96, 8, 1, 8, 40), 2);
+    table[8] ^= 2;
+    for (size_t i = 0; i < 8 * VAYUDRIT_RECORD_WORDS; i++) {
+        record[i] ^= 1;
+        memcpy(old_record, record, sizeof record);
+        if (!legal_record(2, 1))
+            expect("one bit of the record", SEARCH(2, 1, 96, 360, 1, 8, 40), 5);
+        record[i] ^= 1;
+    }
+    memcpy(old_record, record, sizeof record);
+}
+
+static void other_refusals(void)
+{
+    uint64_t w[VAYUDRIT_MAX_TABLE_WORDS], old[VAYUDRIT_MAX_TABLE_WORDS];
+    int64_t b = 77;
+    for (size_t i = 0; i < VAYUDRIT_MAX_TABLE_WORDS; i++)
+        w[i] = old[i] = rnd();
+    expect("pack 1", vayudrit_pack(21, 1, rows, 6, w, 12), 1);
+    expect("pack 2, rows", vayudrit_pack(2, 1, rows, 5, w, 12), 2);
+    expect("pack 2, table", vayudrit_pack(2, 1, rows, 6, w, 11), 2);
+    expect("check 2", vayudrit_check(2, 1, differences, 11), 2);
+    differences[0] |= 4;
+    expect("check 3", vayudrit_check(2, 1, differences, 12), 3);
+    expect("differences 3", vayudrit_differences(2, 1, differences, 12, w, 12), 3);
+    expect("differences 2 before 3", vayudrit_differences(2, 1, differences, 12, w, 11), 2);
+    expect("coefficients 3", vayudrit_coefficients(2, 1, differences, 12, w, 12), 3);
+    expect("open 2 before 3", vayudrit_open(2, 1, differences, 12, 0, w, 44), 2);
+    expect("open 3", vayudrit_open(2, 1, differences, 12, 10, w, 45), 3);
+    expect("evaluate 2 before 3", vayudrit_evaluate(2, 1, differences, 12, 0, w, 3), 2);
+    expect("evaluate 3", vayudrit_evaluate(2, 1, differences, 12, 9, w, 2), 3);
+    differences[0] &= ~(uint64_t)4;
+    expect("open 4", vayudrit_open(2, 1, differences, 12, 10, w, 45), 4);
+    expect("evaluate 4", vayudrit_evaluate(2, 1, differences, 12, 9, w, 2), 4);
+    expect("point 1", vayudrit_point(0, 0, w, 2), 1);
+    expect("point 2 before 4", vayudrit_point(2, 9, w, 2), 2);
+    expect("point 4", vayudrit_point(2, 9, w, 1), 4);
+    expect("place 4", vayudrit_place(20, 3486784401u, w, 1), 4);
+    expect("balanced 4", vayudrit_balanced(2, 9, &b, 1), 4);
+    expect("balanced 2", vayudrit_balanced(2, 9, &b, 0), 2);
+    expect("unbalanced 4", vayudrit_unbalanced(2, 5, w, 1), 4);
+    expect("unbalanced 4, below", vayudrit_unbalanced(2, -5, w, 1), 4);
+    expect("unbalanced 4, far", vayudrit_unbalanced(20, INT64_MIN, w, 1), 4);
+    if (memcmp(w, old, sizeof w) != 0 || b != 77)
+        fault("what a refusal left", -6);
+    expect("open at the end", vayudrit_open(2, 1, differences, 12, 9, opened, 45), 0);
+    expect("the lower end", vayudrit_unbalanced(20, -1743392200, w, 1), 0);
+}
+
+int main(void)
+{
+    systems();
+    long_list();
+    numbers();
+    search_refusals();
+    other_refusals();
+    printf("%d faults\n", faults);
+    return faults != 0;
+}
