@@ -1,0 +1,2 @@
+pub mod LineLaw
+pub mod ReadLaw
