@@ -1,2 +1,7 @@
 pub mod LineLaw
 pub mod ReadLaw
+pub mod WriteLaw
+pub mod SoundLaw
+pub mod AnswerLaw
+pub mod ColourLaw
+pub mod CaseLaw

@@ -1,23 +1,21 @@
 -- Bytes one at a time: what remains of a list after i of its bytes decides the rest.
-use mathlib.Core.Path.{_≡_, refl, sym, ap, ap₂, _∙_}
-use mathlib.Core.Bool.{Bool, true, false, _&&_, _||_}
+use mathlib.Core.Path.{_≡_, refl, sym, ap, _∙_}
+use mathlib.Core.Bool.{Bool, true, false, _&&_}
 use mathlib.Core.List.{List, [], _∷_}
 use mathlib.Core.Logic.{by-cases}
 use Prim.Native.Nat.{ℕ, zero, suc, _+_, _-_, _*_, _^_, _≤_, _<_}
 use native.Mathlib.Decide.{decLt}
 use native.Mathlib.Numerals.{add-one}
 use native.Mathlib.Omega.{arith}
-use lib.Dec.{eqb, ltb, leb}
+use lib.Dec.{eqb}
 use lib.ListN.{length, getD, take, drop, drop-of-length-le, length-drop}
 use lib.Seq.{drop-cons, take-all}
 use borrow.Author.Tests.{eq-eqb, ne-eqb, lt-ltb, le-ltb, le-leb, lt-leb}
 use Rattle.graphs.specs.declared.lines.Number.{Number}
 use Rattle.graphs.specs.declared.lines.Number.the-variants as number
-use Rattle.graphs.specs.declared.lines.Pair.{Pair}
 use Rattle.graphs.specs.declared.lines.Pair.the-variants as pair
-use Rattle.graphs.specs.declared.lines.Shape.{Shape}
-use Rattle.graphs.specs.declared.lines.Shape.the-variants.{Comment, Problem, Edge, Unknown}
-use Rattle.graphs.specs.Lines.{firstOf, isDigit, decimalFrom, isPadded, numberIn, both, pairIn, starts, isComment, asProblem, asEdge, shapeOf}
+use Rattle.graphs.specs.declared.lines.Shape.the-variants.{Comment, Unknown}
+use Rattle.graphs.specs.Lines.{firstOf, decimalFrom, isPadded, numberIn, both, pairIn, starts, isComment, asProblem, asEdge, shapeOf}
 
 -- ---- the first b
 pub first-stop : (b x : ℕ) (t : List ℕ) → x ≡ b → firstOf b (x ∷ t) ≡ 0

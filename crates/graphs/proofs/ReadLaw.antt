@@ -3,14 +3,14 @@ use mathlib.Core.Path.{_≡_, refl, sym, ap, ap₂, _∙_}
 use mathlib.Core.Bool.{Bool, true, false}
 use mathlib.Core.List.{List, [], _∷_, _++_}
 use mathlib.Core.Logic.{by-cases}
-use Prim.Native.Nat.{ℕ, zero, suc, _+_, _-_, _*_, _≤_, _<_}
+use Prim.Native.Nat.{ℕ, zero, suc, _+_, _-_, _≤_, _<_}
 use native.Mathlib.Decide.{ℕ-discrete}
 use native.Mathlib.Numerals.{add-one}
 use native.Mathlib.Omega.{arith}
 use lib.Dec.{eqb, ltb, leb}
-use lib.ListN.{length, getD, take, drop, set, length-append}
-use lib.Seq.{drop-cons, drop-drop, getD-set-same, getD-set-other}
-use borrow.Author.Tests.{eq-eqb, ne-eqb, lt-ltb, le-ltb, lt-leb, ltb-false, leb-false, eqb-false}
+use lib.ListN.{length, getD, take, drop, set, length-append, List·getD-append}
+use lib.Seq.{drop-cons, drop-drop, getD-set-same, getD-set-other, getD-at}
+use borrow.Author.Tests.{eq-eqb, ne-eqb, lt-ltb, le-ltb, ltb-false, leb-false, eqb-false}
 use Rattle.graphs.specs.declared.GraphFault.{GraphFault}
 use Rattle.graphs.specs.declared.GraphFault.the-variants as why
 use Rattle.graphs.specs.declared.reading.Finding.{Finding}
@@ -18,9 +18,10 @@ use Rattle.graphs.specs.declared.reading.Finding.the-variants.{Fine, Fau
 use Rattle.graphs.specs.declared.lines.Shape.{Shape}
 use Rattle.graphs.specs.declared.lines.Shape.the-variants.{Comment, Problem, Edge, Unknown}
 use Rattle.graphs.specs.Lines.{firstOf, shapeOf}
-use Rattle.graphs.specs.Reading.{grow, linesOf, Ends, State, start, declared, Turn, on, stop, fault, problemFault, edgeFault, carry, takeLine, Outcome, graph, refused, endOf, readLines}
+use Rattle.graphs.specs.Reading.{grow, linesOf, Ends, State, start, declared, Turn, on, stop, fault, problemFault, edgeFault, carry, takeLine, graph, refused, endOf, readLines}
+use Rattle.graphs.specs.Equations.{noEnds}
 use Rattle.graphs.specs.Answers.{endsOf, stateIn, foundOf, isFault}
-use Rattle.graphs.proofs.LineLaw.{first-stop, first-more, first-none}
+use Rattle.graphs.proofs.LineLaw.{first-stop, first-more}
 
 -- ---- lines
 lines-feed : (x : ℕ) (t : List ℕ) → x ≡ 10 → linesOf (x ∷ t) ≡ [] ∷ linesOf t
@@ -58,7 +59,7 @@ lines-at s i f h e =
     let q : i + f + 1 ≡ i + (f + 1) = omega arith in
     let d : drop i s ≡ getD s i 0 ∷ drop (suc i) s = drop-cons s i 0 h in
     let w : linesOf (drop i s) ≡ take (firstOf 10 (drop i s)) (drop i s) ∷ linesOf (drop (firstOf 10 (drop i s) + 1) (drop i s)) =
-          rw d (lines-split (getD s i 0) (drop (suc i) s)) in
+    rw d (lines-split (getD s i 0) (drop (suc i) s)) in
     rw (p, q, ← drop-drop (f + 1) i s, e) w
 
 pub lines-none : linesOf [] ≡ []
@@ -234,16 +235,27 @@ pub ends-none : (k : ℕ) (xs ys : List ℕ) → k ≡ 0 → endsOf k xs ys ≡ 
 unfolding endsOf
 ends-none k xs ys h = rw h
 
-pub ends-next : {k k′ a b : ℕ} {xs ys xs′ ys′ : List ℕ} → k′ ≡ k + 1 → xs′ ≡ set xs k a → ys′ ≡ set ys k b → k < length xs → k < length ys
+pub ends-next : (k a b : ℕ) (xs ys : List ℕ) {k′ : ℕ} {xs′ ys′ : List ℕ} → k′ ≡ k + 1 → xs′ ≡ set xs k a → ys′ ≡ set ys k b → k < length xs → k < length ys
     → endsOf k′ xs′ ys′ ≡ endsOf k xs ys ++ (record { one = a; other = b } ∷ [])
-ends-next {k} {k′} {a} {b} {xs} {ys} h p q l m = rw (h, p, q) (ends-joined k xs ys a b l m)
+ends-next k a b xs ys h p q l m = rw (h, p, q) (ends-joined k xs ys a b l m)
 
 -- a line that is taken
-pub read-on : {f : Finding} {s u : State} (k : ℕ) (l : List ℕ) (ls : List (List ℕ)) → isFault f ≡ false → carry f s ≡ takeLine u (shapeOf l)
+pub read-on : (f : Finding) (s u : State) (k : ℕ) (l : List ℕ) (ls : List (List ℕ)) → isFault f ≡ false → carry f s ≡ takeLine u (shapeOf l)
     → readLines (k + 1) s ls ≡ readLines k u (l ∷ ls)
-read-on {f} {s} {u} k l ls e p = sym (read-go k u s l ls (sym p ∙ ap (λ (g : Finding). carry g s) (fine-is f e)))
+read-on f s u k l ls e p = sym (read-go k u s l ls (sym p ∙ ap (λ (g : Finding). carry g s) (fine-is f e)))
 
 -- a line that is refused
-pub read-refused : {f : Finding} {s u : State} (k v : ℕ) (es : List Ends) (l : List ℕ) (ls : List (List ℕ)) → isFault f ≡ true → carry f s ≡ takeLine u (shapeOf l)
+pub read-refused : (f : Finding) (s u : State) (k v : ℕ) (es : List Ends) (l : List ℕ) (ls : List (List ℕ)) → isFault f ≡ true → carry f s ≡ takeLine u (shapeOf l)
     → foundOf f k v es ≡ readLines k u (l ∷ ls)
-read-refused {f} {s} {u} k v es l ls e p = fault-is f e s k v es (takeLine u (shapeOf l)) p u l ls refl
+read-refused f s u k v es l ls e p = fault-is f e s k v es (takeLine u (shapeOf l)) p u l ls refl
+
+-- edge e of the two arrays
+pub ends-at : (k : ℕ) (xs ys : List ℕ) (e : ℕ) → e < k → getD (endsOf k xs ys) e noEnds ≡ record { one = getD xs e 0; other = getD ys e 0 }
+unfolding endsOf
+ends-at zero xs ys e h = absurd (omega arith)
+ends-at (suc k) xs ys e h =
+    by-cases (ℕ-discrete e k)
+    (λ q. rw q (getD-at (endsOf k xs ys) (record { one = getD xs k 0; other = getD ys k 0 }) [] noEnds k (length-ends k xs ys)))
+    (λ d.
+    let b : ¬ (e ≡ k) = d in
+    List·getD-append (endsOf k xs ys) _ noEnds e (omega (arith, length-ends k xs ys)) ∙ ends-at k xs ys e (omega arith))

@@ -3,3 +3,4 @@ pub mod Reading
 pub mod Equations
 pub mod Answers
 pub mod Parts
+pub mod Cases

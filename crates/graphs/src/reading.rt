@@ -126,8 +126,9 @@ fn take_problem(g: Graph, v: u64, e: u64) -> Taken
     ensures { λ r. ⌜ (carry (r .finding) (stateOf (r .graph)) ≡ takeLine (stateOf g) (Problem v e)) × (r .graph .edges ≤ 64) ⌝ }
 {
     if g.known {
+        let again = Finding::Fault(GraphFault::Order);
         return Taken {
-            finding: Finding::Fault(GraphFault::Order),
+            finding: again,
             graph: g,
         };
     }
@@ -153,8 +154,9 @@ fn take_edge(g: Graph, a: u64, b: u64) -> Taken
     ensures { λ r. ⌜ (carry (r .finding) (stateOf (r .graph)) ≡ takeLine (stateOf g) (Edge a b)) × (r .graph .edges ≤ 64) ⌝ }
 {
     if !g.known {
+        let early = Finding::Fault(GraphFault::Order);
         return Taken {
-            finding: Finding::Fault(GraphFault::Order),
+            finding: early,
             graph: g,
         };
     }

@@ -1,11 +1,10 @@
+-- `graphs::equations::index` meets its contract.
 use Prim.Native.Nat.{_+_, _*_, _/_, _≤_, _<_}
 use native.Mathlib.Omega.{arith}
 use Rattle.tables.proofs.IndexLaw.{index-closed, index-lt, product-le, half-le}
 use borrow.Author.Needs.{needs}
 use Rattle.graphs.proofs.equations.index.Statement.{statement}
 use Rattle.graphs.proofs.equations.index.Tie as tie
-use Rattle.graphs.proofs.equations.index.Reads as reads
-use Rattle.graphs.proofs.equations.index.Lts as lts
 
 -- the code's numbers are small
 small : (c : tie.Start) → (c .args .i * c .args .n ≤ 400) × (c .args .i * (c .args .i + 1) ≤ 420) × (c .args .i * (c .args .i + 1) / 2 ≤ c .args .i * c .args .n)
@@ -16,37 +15,31 @@ small c =
     let q : i < n = omega (arith, c .pre .1, c .pre .2) in
     (product-le i n (omega arith) p, omega (arith, product-le i i (omega arith) (omega arith)), half-le n i q)
 
--- src/equations.rt:31:5
 add-result : tie.Need-add-result
 add-result c = search needs
 
--- src/equations.rt:31:14
 mul-result : tie.Need-mul-result
 mul-result c = omega (arith, small c)
 
--- src/equations.rt:31:27
 add-result-2 : tie.Need-add-result-2
 add-result-2 c = search needs
 
--- src/equations.rt:31:22
 mul-result-2 : tie.Need-mul-result-2
 mul-result-2 c = omega (arith, small c)
 
--- src/equations.rt:31:14
 sub-result : tie.Need-sub-result
 sub-result c = omega (arith, small c)
 
--- src/equations.rt:31:5
 add-result-3 : tie.Need-add-result-3
 add-result-3 c = omega (arith, small c, c .pre)
 
--- src/equations.rt:31:5
 add-result-4 : tie.Need-add-result-4
 add-result-4 c = omega (arith, small c, c .pre)
 
--- src/equations.rt:27:1
 returns : tie.Need-returns
-returns c = let e = index-closed (c .args .n) (c .args .i) (c .args .j) (c .pre .1) (c .pre .2) in (e, rw e (index-lt (c .args .n) (c .args .i) (c .args .j) (c .pre .1) (c .pre .2)))
+returns c =
+    let e = index-closed (c .args .n) (c .args .i) (c .args .j) (c .pre .1) (c .pre .2) in
+    (e, rw e (index-lt (c .args .n) (c .args .i) (c .args .j) (c .pre .1) (c .pre .2)))
 
 pub index-spec : {M : Type 1} → statement M
 index-spec =

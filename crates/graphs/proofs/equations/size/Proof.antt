@@ -1,41 +1,33 @@
+-- `graphs::equations::size` meets its contract.
 use mathlib.Core.Path.{refl}
-use Prim.Native.Nat.{_+_, _*_, _-_, _/_, _≤_, _<_}
+use Prim.Native.Nat.{_-_}
 use native.Mathlib.Omega.{arith}
 use Rattle.tables.specs.Monomials.{countOf}
 use Rattle.tables.proofs.IndexLaw.{product-le, count-le}
 use borrow.Author.Needs.{needs}
 use Rattle.graphs.proofs.equations.size.Statement.{statement}
 use Rattle.graphs.proofs.equations.size.Tie as tie
-use Rattle.graphs.proofs.equations.size.Reads as reads
-use Rattle.graphs.proofs.equations.size.Lts as lts
 
--- src/equations.rt:23:14
 mul-result : tie.Need-mul-result
 mul-result c = search needs
 
--- src/equations.rt:23:10
 add-result : tie.Need-add-result
 add-result c = search needs
 
--- src/equations.rt:23:27
 sub-result : tie.Need-sub-result
 sub-result c = search needs
 
--- src/equations.rt:23:22
 mul-result-2 : tie.Need-mul-result-2
 mul-result-2 c = omega (arith, product-le (c .args .n) (c .args .n - 1) (c .pre .1) (omega (arith, c .pre)))
 
--- src/equations.rt:23:10
 add-result-2 : tie.Need-add-result-2
 unfolding countOf
 add-result-2 c = omega (arith, count-le (c .args .n) (c .pre .1))
 
--- src/equations.rt:23:5
 mul-result-3 : tie.Need-mul-result-3
 unfolding countOf
 mul-result-3 c = omega (arith, count-le (c .args .n) (c .pre .1))
 
--- src/equations.rt:18:1
 returns : tie.Need-returns
 unfolding countOf
 returns c = (refl, omega (arith, count-le (c .args .n) (c .pre .1)))

@@ -1,15 +1,13 @@
+-- `graphs::lines::decimal` meets its contract: the value so far and the digits that are left give the whole number.
 use mathlib.Core.Path.{_≡_, refl, sym, ap, _∙_}
-use Prim.Native.Nat.{ℕ, suc, _+_, _-_, _*_, _^_, _≤_, _<_}
+use Prim.Native.Nat.{ℕ, _+_, _-_, _*_, _^_, _≤_, _<_}
 use native.Mathlib.Omega.{arith}
-use lib.ListN.{length, getD, take, drop}
+use lib.ListN.{length, drop}
 use borrow.Author.Needs.{needs}
 use Rattle.graphs.specs.Lines.{decimalFrom}
 use Rattle.graphs.proofs.LineLaw.{decimal-next, decimal-low, decimal-high, decimal-end, small-next, small-five}
 use Rattle.graphs.proofs.lines.decimal.Statement.{statement}
 use Rattle.graphs.proofs.lines.decimal.Tie as tie
-use Rattle.graphs.proofs.lines.decimal.Reads as reads
-use Rattle.graphs.proofs.lines.decimal.Lts as lts
-use Rattle.graphs.proofs.lines.wide.Reads as wide-reads
 
 abbrev Inv-loop : tie.InvT-loop
 Inv-loop bytes value₀ i₀ value i = (i ≤ length bytes) × (value < 10 ^ i) × (decimalFrom value (drop i bytes) ≡ decimalFrom 0 bytes)
@@ -17,49 +15,55 @@ Inv-loop bytes value₀ i₀ value i = (i ≤ length bytes) × (value < 10 ^ i) 
 abbrev μ-loop : tie.MeasureT-loop
 μ-loop bytes value₀ i₀ value i = length bytes - i
 
--- src/lines.rt:54:5
 loop-holds : tie.Need-loop-holds Inv-loop μ-loop
 loop-holds c = (omega arith, omega arith, refl)
 
--- src/lines.rt:55:22
 shared-slice-read-wide : tie.Need-shared-slice-read-wide Inv-loop μ-loop
 shared-slice-read-wide c = search needs
 
--- src/lines.rt:55:13
 wide-requires : tie.Need-wide-requires Inv-loop μ-loop
 wide-requires c κs = search needs
 
--- src/lines.rt:57:13
 returns : tie.Need-returns Inv-loop μ-loop
-returns c = let l = c .before .before .before .before .loop in let a = c .before .before .before .before .before .before .args in sym (decimal-low (a .bytes .now) (l .i) (l .value) (omega arith) (omega (arith, c .before .wide .ensures))) ∙ l .inv .2
+returns c =
+    let l = c .before .before .before .before .loop in
+    let a = c .before .before .before .before .before .before .args in
+    sym (decimal-low (a .bytes .now) (l .i) (l .value) (omega arith) (omega (arith, c .before .wide .ensures))) ∙ l .inv .2
 
--- src/lines.rt:60:13
 returns-2 : tie.Need-returns-2 Inv-loop μ-loop
-returns-2 c = let l = c .before .before .before .before .before .loop in let a = c .before .before .before .before .before .before .before .args in sym (decimal-high (a .bytes .now) (l .i) (l .value) (omega arith) (omega (arith, c .before .before .wide .ensures))) ∙ l .inv .2
+returns-2 c =
+    let l = c .before .before .before .before .before .loop in
+    let a = c .before .before .before .before .before .before .before .args in
+    sym (decimal-high (a .bytes .now) (l .i) (l .value) (omega arith) (omega (arith, c .before .before .wide .ensures))) ∙ l .inv .2
 
--- src/lines.rt:62:17
 mul-value : tie.Need-mul-value Inv-loop μ-loop
-mul-value c = let l = c .before .before .before .before .before .loop in omega (arith, small-five (l .i) (l .value) (omega arith) (l .inv .1))
+mul-value c =
+    let l = c .before .before .before .before .before .loop in
+    omega (arith, small-five (l .i) (l .value) (omega arith) (l .inv .1))
 
--- src/lines.rt:62:17
 add-value : tie.Need-add-value Inv-loop μ-loop
-add-value c = let l = c .before .before .before .before .before .loop in omega (arith, small-five (l .i) (l .value) (omega arith) (l .inv .1))
+add-value c =
+    let l = c .before .before .before .before .before .loop in
+    omega (arith, small-five (l .i) (l .value) (omega arith) (l .inv .1))
 
--- src/lines.rt:63:9
 add-i : tie.Need-add-i Inv-loop μ-loop
 add-i c = search needs
 
--- src/lines.rt:54:5
 loop-less : tie.Need-loop-less Inv-loop μ-loop
 loop-less c = search needs
 
--- src/lines.rt:54:5
 loop-again : tie.Need-loop-again Inv-loop μ-loop
-loop-again c = let l = c .before .before .before .before .before .loop in let a = c .before .before .before .before .before .before .before .args in let w = c .before .before .wide .ensures in (omega arith, small-next (l .i) (l .value) (c .before .before .wide .result - 48) (l .inv .1) (omega arith), ap (λ (x : ℕ). decimalFrom (10 * l .value + (x - 48)) (drop (l .i + 1) (a .bytes .now))) w ∙ sym (decimal-next (a .bytes .now) (l .i) (l .value) (omega arith) (omega arith) (omega arith)) ∙ l .inv .2)
+loop-again c =
+    let l = c .before .before .before .before .before .loop in
+    let a = c .before .before .before .before .before .before .before .args in
+    let w = c .before .before .wide .ensures in
+    (omega arith, small-next (l .i) (l .value) (c .before .before .wide .result - 48) (l .inv .1) (omega arith), ap (λ (x : ℕ). decimalFrom (10 * l .value + (x - 48)) (drop (l .i + 1) (a .bytes .now))) w ∙ sym (decimal-next (a .bytes .now) (l .i) (l .value) (omega arith) (omega arith) (omega arith)) ∙ l .inv .2)
 
--- src/lines.rt:48:1
 returns-3 : tie.Need-returns-3 Inv-loop μ-loop
-returns-3 c = let l = c .before .loop in let a = c .before .before .before .args in sym (decimal-end (a .bytes .now) (l .i) (l .value) (omega arith)) ∙ l .inv .2
+returns-3 c =
+    let l = c .before .loop in
+    let a = c .before .before .before .args in
+    sym (decimal-end (a .bytes .now) (l .i) (l .value) (omega arith)) ∙ l .inv .2
 
 pub decimal-spec : {M : Type 1} → statement M
 decimal-spec =

@@ -1,20 +1,16 @@
+-- `graphs::lines::padded` meets its contract.
 use lib.ListN.{length}
 use borrow.Author.Tests.{lt-ltb, le-ltb}
 use borrow.Author.Needs.{needs}
 use Rattle.graphs.proofs.lines.padded.Statement.{statement}
 use Rattle.graphs.proofs.lines.padded.Tie as tie
-use Rattle.graphs.proofs.lines.padded.Reads as reads
-use Rattle.graphs.proofs.lines.padded.Lts as lts
 
--- src/lines.rt:73:16
 shared-slice-read-result : tie.Need-shared-slice-read-result
 shared-slice-read-result c = search needs
 
--- src/lines.rt:73:9
 returns : tie.Need-returns
 returns c = rw (lt-ltb 1 (length (c .before .before .args .bytes .now)) (c .before .if1 .taken))
 
--- src/lines.rt:69:1
 returns-2 : tie.Need-returns-2
 returns-2 c = rw (le-ltb 1 (length (c .before .args .bytes .now)) (c .if1 .left))
 

@@ -1,34 +1,26 @@
+-- `graphs::reading::edge_fault` meets its contract.
 use borrow.Author.Tests.{lt-ltb, le-ltb, le-leb, lt-leb, eq-eqb, ne-eqb}
 use Rattle.graphs.proofs.reading.edge_fault.Statement.{statement}
 use Rattle.graphs.proofs.reading.edge_fault.Tie as tie
-use Rattle.graphs.proofs.reading.edge_fault.Reads as reads
-use Rattle.graphs.proofs.reading.edge_fault.Lts as lts
 
--- src/reading.rt:82:9
 returns : tie.Need-returns
 returns c = search (lt-ltb, le-ltb, le-leb, lt-leb, eq-eqb, ne-eqb)
 
--- src/reading.rt:85:9
 returns-2 : tie.Need-returns-2
 returns-2 c = search (lt-ltb, le-ltb, le-leb, lt-leb, eq-eqb, ne-eqb)
 
--- src/reading.rt:88:9
 returns-3 : tie.Need-returns-3
 returns-3 c = search (lt-ltb, le-ltb, le-leb, lt-leb, eq-eqb, ne-eqb)
 
--- src/reading.rt:91:9
 returns-4 : tie.Need-returns-4
 returns-4 c = search (lt-ltb, le-ltb, le-leb, lt-leb, eq-eqb, ne-eqb)
 
--- src/reading.rt:94:9
 returns-5 : tie.Need-returns-5
 returns-5 c = search (lt-ltb, le-ltb, le-leb, lt-leb, eq-eqb, ne-eqb)
 
--- src/reading.rt:97:9
 returns-6 : tie.Need-returns-6
 returns-6 c = search (lt-ltb, le-ltb, le-leb, lt-leb, eq-eqb, ne-eqb)
 
--- src/reading.rt:78:1
 returns-7 : tie.Need-returns-7
 returns-7 c = search (lt-ltb, le-ltb, le-leb, lt-leb, eq-eqb, ne-eqb)
 

@@ -1,26 +1,20 @@
+-- `graphs::reading::problem_fault` meets its contract.
 use borrow.Author.Tests.{lt-ltb, le-ltb, le-leb, lt-leb, eq-eqb, ne-eqb}
 use Rattle.graphs.proofs.reading.problem_fault.Statement.{statement}
 use Rattle.graphs.proofs.reading.problem_fault.Tie as tie
-use Rattle.graphs.proofs.reading.problem_fault.Reads as reads
-use Rattle.graphs.proofs.reading.problem_fault.Lts as lts
 
--- src/reading.rt:63:9
 returns : tie.Need-returns
 returns c = search (lt-ltb, le-ltb, le-leb, lt-leb, eq-eqb, ne-eqb)
 
--- src/reading.rt:66:9
 returns-2 : tie.Need-returns-2
 returns-2 c = search (lt-ltb, le-ltb, le-leb, lt-leb, eq-eqb, ne-eqb)
 
--- src/reading.rt:69:9
 returns-3 : tie.Need-returns-3
 returns-3 c = search (lt-ltb, le-ltb, le-leb, lt-leb, eq-eqb, ne-eqb)
 
--- src/reading.rt:72:9
 returns-4 : tie.Need-returns-4
 returns-4 c = search (lt-ltb, le-ltb, le-leb, lt-leb, eq-eqb, ne-eqb)
 
--- src/reading.rt:59:1
 returns-5 : tie.Need-returns-5
 returns-5 c = search (lt-ltb, le-ltb, le-leb, lt-leb, eq-eqb, ne-eqb)
 

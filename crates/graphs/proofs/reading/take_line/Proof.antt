@@ -1,59 +1,56 @@
-use mathlib.Core.Path.{_≡_, refl, sym, ap, ap₂, _∙_}
+-- `graphs::reading::take_line` meets its contract.
+use mathlib.Core.Path.{sym, ap, _∙_}
 use Rattle.graphs.specs.Answers.{stateOf}
 use Rattle.graphs.specs.Reading.{takeLine}
 use Rattle.graphs.proofs.ReadLaw.{take-comment, take-unknown}
 use borrow.Author.Needs.{needs}
 use Rattle.graphs.proofs.reading.take_line.Statement.{statement}
 use Rattle.graphs.proofs.reading.take_line.Tie as tie
-use Rattle.graphs.proofs.reading.take_line.Reads as reads
-use Rattle.graphs.proofs.reading.take_line.Lts as lts
-use Rattle.graphs.proofs.lines.shape_of.Reads as shape-of-reads
-use Rattle.graphs.proofs.reading.take_edge.Reads as take-edge-reads
-use Rattle.graphs.proofs.reading.take_problem.Reads as take-problem-reads
 
--- src/reading.rt:182:9
 shape-of-requires : tie.Need-shape-of-requires
 shape-of-requires c κs = search needs
 
--- src/reading.rt:185:22
 enum-told : tie.Need-enum-told
 enum-told c = search needs
 
--- src/reading.rt:188:26
 enum-known-s : tie.Need-enum-known-s
 enum-known-s c = search needs
 
--- src/reading.rt:188:47
 take-problem-requires : tie.Need-take-problem-requires
 take-problem-requires c κs = search needs
 
--- src/reading.rt:189:23
 enum-known-s-2 : tie.Need-enum-known-s-2
 enum-known-s-2 c = search needs
 
--- src/reading.rt:189:39
 take-edge-requires : tie.Need-take-edge-requires
 take-edge-requires c κs = search needs
 
--- src/reading.rt:191:37
 enum-told-2 : tie.Need-enum-told-2
 enum-told-2 c = search needs
 
--- src/reading.rt:178:1
 returns : tie.Need-returns
-returns c = let a = c .before .before .before .before .args in let g = a .g in (sym (ap (takeLine (stateOf g)) (sym (c .before .before .shape-of .ensures) ∙ c .enum-told .given .1) ∙ take-comment (stateOf g)), c .before .before .before .before .pre)
+returns c =
+    let a = c .before .before .before .before .args in
+    let g = a .g in
+    (sym (ap (takeLine (stateOf g)) (sym (c .before .before .shape-of .ensures) ∙ c .enum-told .given .1) ∙ take-comment (stateOf g)), c .before .before .before .before .pre)
 
--- src/reading.rt:178:1
 returns-2 : tie.Need-returns-2
-returns-2 c = let a = c .before .before .before .before .before .before .args in let g = a .g in (c .take-problem .ensures .0 ∙ ap (takeLine (stateOf g)) (sym (c .before .before .s .given .1) ∙ c .before .before .before .before .shape-of .ensures), c .take-problem .ensures .1)
+returns-2 c =
+    let a = c .before .before .before .before .before .before .args in
+    let g = a .g in
+    (c .take-problem .ensures .0 ∙ ap (takeLine (stateOf g)) (sym (c .before .before .s .given .1) ∙ c .before .before .before .before .shape-of .ensures), c .take-problem .ensures .1)
 
--- src/reading.rt:178:1
 returns-3 : tie.Need-returns-3
-returns-3 c = let a = c .before .before .before .before .before .before .args in let g = a .g in (c .take-edge .ensures .0 ∙ ap (takeLine (stateOf g)) (sym (c .before .before .s .given .1) ∙ c .before .before .before .before .shape-of .ensures), c .take-edge .ensures .1)
+returns-3 c =
+    let a = c .before .before .before .before .before .before .args in
+    let g = a .g in
+    (c .take-edge .ensures .0 ∙ ap (takeLine (stateOf g)) (sym (c .before .before .s2 .given .1) ∙ c .before .before .before .before .shape-of .ensures), c .take-edge .ensures .1)
 
--- src/reading.rt:178:1
 returns-4 : tie.Need-returns-4
-returns-4 c = let a = c .before .before .before .before .args in let g = a .g in (sym (ap (takeLine (stateOf g)) (sym (c .before .before .shape-of .ensures) ∙ c .enum-told2 .given .1) ∙ take-unknown (stateOf g)), c .before .before .before .before .pre)
+returns-4 c =
+    let a = c .before .before .before .before .args in
+    let g = a .g in
+    (sym (ap (takeLine (stateOf g)) (sym (c .before .before .shape-of .ensures) ∙ c .enum-told2 .given .1) ∙ take-unknown (stateOf g)), c .before .before .before .before .pre)
 
 pub take-line-spec : {M : Type 1} → statement M
 take-line-spec =

@@ -1,44 +1,46 @@
-use mathlib.Core.Path.{_≡_, refl, sym, ap, ap₂, _∙_}
-use Prim.Native.Nat.{ℕ, suc, _+_, _-_, _*_, _≤_, _<_}
+-- `graphs::reading::take_problem` meets its contract.
+use mathlib.Core.Path.{sym, ap, _∙_}
+use Prim.Native.Nat.{_-_}
 use native.Mathlib.Omega.{arith}
-use Rattle.graphs.specs.Answers.{stateOf, edgesOf}
+use Rattle.graphs.specs.Answers.{edgesOf}
 use Rattle.graphs.specs.Reading.{on}
 use Rattle.graphs.proofs.ReadLaw.{second-problem, first-problem, state-is, ends-none, problem-fine}
 use borrow.Author.Needs.{needs}
 use Rattle.graphs.proofs.reading.take_problem.Statement.{statement}
 use Rattle.graphs.proofs.reading.take_problem.Tie as tie
-use Rattle.graphs.proofs.reading.take_problem.Reads as reads
-use Rattle.graphs.proofs.reading.take_problem.Lts as lts
-use Rattle.graphs.proofs.reading.fresh.Reads as fresh-reads
-use Rattle.graphs.proofs.reading.problem_fault.Reads as problem-fault-reads
 
--- src/reading.rt:129:9
 returns : tie.Need-returns
-returns c = let a = c .before .args in let g = a .g in (second-problem (g .vertices) (g .edges) (edgesOf g) (c .if1 .taken) (a .v) (a .e), c .before .pre)
+returns c =
+    let a = c .before .args in
+    let g = a .g in
+    (second-problem (g .vertices) (g .edges) (edgesOf g) (c .if1 .taken) (a .v) (a .e), c .before .pre)
 
--- src/reading.rt:134:9
 problem-fault-requires : tie.Need-problem-fault-requires
 problem-fault-requires c κs = search needs
 
--- src/reading.rt:136:24
 enum-known-f : tie.Need-enum-known-f
 enum-known-f c = search needs
 
--- src/reading.rt:141:17
 enum-told : tie.Need-enum-told
 enum-told c = search needs
 
--- src/reading.rt:141:17
 fresh-requires : tie.Need-fresh-requires
 fresh-requires c κs = search needs
 
--- src/reading.rt:124:1
 returns-2 : tie.Need-returns-2
-returns-2 c = let a = c .before .before .before .before .before .args in let g = a .g in (first-problem (g .vertices) (g .edges) (edgesOf g) (c .before .before .before .before .if1 .left) (a .v) (a .e) (sym (c .before .before .before .problem-fault .ensures) ∙ c .before .f .given .1), c .before .before .before .before .before .pre)
+returns-2 c =
+    let a = c .before .before .before .before .before .args in
+    let g = a .g in
+    (first-problem (g .vertices) (g .edges) (edgesOf g) (c .before .before .before .before .if1 .left) (a .v) (a .e) (sym (c .before .before .before .problem-fault .ensures) ∙ c .before .f .given .1), c .before .before .before .before .before .pre)
 
--- src/reading.rt:124:1
 returns-3 : tie.Need-returns-3
-returns-3 c = let a = c .before .before .before .before .before .args in let g = a .g in let r = c .fresh .result in let e = c .fresh .ensures in let f = sym (c .before .before .before .problem-fault .ensures) ∙ c .before .enum-told .given .1 in (ap on (state-is (e .0) (e .1) (e .2) (ends-none (r .count) (r .one) (r .other) (e .3))) ∙ first-problem (g .vertices) (g .edges) (edgesOf g) (c .before .before .before .before .if1 .left) (a .v) (a .e) f, omega (arith, problem-fine (a .v) (a .e) f .e-most, e .2))
+returns-3 c =
+    let a = c .before .before .before .before .before .args in
+    let g = a .g in
+    let r = c .fresh .result in
+    let e = c .fresh .ensures in
+    let f = sym (c .before .before .before .problem-fault .ensures) ∙ c .before .enum-told .given .1 in
+    (ap on (state-is (e .0) (e .1) (e .2) (ends-none (r .count) (r .one) (r .other) (e .3))) ∙ first-problem (g .vertices) (g .edges) (edgesOf g) (c .before .before .before .before .if1 .left) (a .v) (a .e) f, omega (arith, problem-fine (a .v) (a .e) f .e-most, e .2))
 
 pub take-problem-spec : {M : Type 1} → statement M
 take-problem-spec =
