@@ -1,4 +1,5 @@
 pub mod LineLaw
+pub mod ReturnLaw
 pub mod ReadLaw
 pub mod WriteLaw
 pub mod SoundLaw

@@ -55,7 +55,7 @@ digit-more : (a x : ℕ) (t : List ℕ) → 48 ≤ x → x ≤ 57 → decimalFro
 unfolding decimalFrom
 digit-more a x t h l = rw (le-leb 48 x h, le-leb x 57 l, decimalFrom)
 
-digit-low : (a x : ℕ) (t : List ℕ) → x < 48 → decimalFrom a (x ∷ t) ≡ number.Wrong
+pub digit-low : (a x : ℕ) (t : List ℕ) → x < 48 → decimalFrom a (x ∷ t) ≡ number.Wrong
 unfolding decimalFrom
 digit-low a x t h = rw (lt-leb 48 x h, decimalFrom)
 

@@ -16,6 +16,11 @@ unfoldable pub firstOf : ℕ → List ℕ → ℕ
 firstOf b [] = 0
 firstOf b (x ∷ t) = elim (eqb x b) [ true ↦ 0 | false ↦ suc (firstOf b t) ]
 
+-- whether a byte stands among others
+unfoldable pub has : ℕ → List ℕ → Bool
+has b [] = false
+has b (x ∷ t) = eqb x b || has b t
+
 -- a decimal digit
 abbrev pub isDigit : ℕ → Bool
 isDigit x = leb 48 x && leb x 57
