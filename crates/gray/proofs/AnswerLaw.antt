@@ -1,9 +1,10 @@
 -- Each verdict from the tests that the code makes, and the answer that goes with it.
-use mathlib.Core.Path.{_≡_, refl, sym, ap, ap₂, _∙_}
-use mathlib.Core.Bool.{Bool, true, false}
-use Prim.Native.Nat.{ℕ, _+_, _^_, _<_, _≤_}
+use mathlib.Core.Path.{_≡_, refl, sym, ap, ap₂, _∙_, subst}
+use mathlib.Core.Bool.{true, false}
+use Prim.Native.Nat.{ℕ, _^_, _<_, _≤_}
+use mathlib.Core.Logic.{by-cases}
+use native.Mathlib.Decide.{decLt}
 use native.Mathlib.Omega.{arith}
-use lib.Dec.{ltb, leb}
 use lib.IntN.{ℤ, pos, negℤ}
 use lib.Signed.{ltZ}
 use borrow.Author.Tests.{lt-ltb, le-ltb, le-leb, lt-leb}
@@ -11,15 +12,17 @@ use Rattle.refusals.specs.declared.Refusal.{Refusal}
 use Rattle.refusals.specs.declared.Refusal.the-variants.{Size, Range}
 use Rattle.refusals.specs.declared.Verdict.{Verdict}
 use Rattle.refusals.specs.declared.Verdict.the-variants as verdict
-use Rattle.refusals.specs.Refusal.{numberOf, refuse, sizedUnknowns}
-use Rattle.gray.specs.declared.PointAnswer.{PointAnswer}
-use Rattle.gray.specs.declared.PointAnswer.the-variants as point
-use Rattle.gray.specs.declared.PlaceAnswer.{PlaceAnswer}
-use Rattle.gray.specs.declared.PlaceAnswer.the-variants as place
-use Rattle.gray.specs.declared.BalancedAnswer.{BalancedAnswer}
-use Rattle.gray.specs.declared.BalancedAnswer.the-variants as balanced
+use Rattle.refusals.specs.Refusal.{sizedUnknowns}
 use Rattle.gray.specs.Balanced.{halfOf}
 use Rattle.gray.specs.Answers.{convertVerdict, balancedVerdict, pointFrom, placeFrom, balancedFrom, told, pointTold, placeTold, balancedTold}
+
+-- a refusal is no acceptance
+refused-done : {r : Refusal} → verdict.Refused r ≡ verdict.Done → ⊥
+refused-done e = subst IsRefused e tt
+  where
+    IsRefused : Verdict → Type 0
+    IsRefused verdict.Done = ⊥
+    IsRefused (verdict.Refused r) = Unit {0}
 
 -- refusal 1, and what is asked after it
 pub size-low : (n : ℕ) (v : Verdict) → n < 1 → sizedUnknowns n v ≡ verdict.Refused Size
@@ -75,3 +78,11 @@ pub balanced-meets : (v w : Verdict) (x y : ℤ) → w ≡ v → y ≡ x → (ba
 balanced-meets v w x y e f =
     let s : balancedFrom v y ≡ balancedFrom w x = ap₂ (λ (u : Verdict) (z : ℤ). balancedFrom u z) (sym e) f in
     (s, ap balancedTold s ∙ balanced-told w x)
+
+-- what is known of n and x once nothing is refused
+pub done-so : (n x : ℕ) → convertVerdict n x ≡ verdict.Done → (1 ≤ n) × (n ≤ 20) × (x < 3 ^ n)
+done-so n x e =
+    by-cases (decLt n 1) (λ h. absurd (refused-done (sym (size-low n _ h) ∙ e)))
+    (λ h. by-cases (decLt 20 n) (λ l. absurd (refused-done (sym (size-high n _ l) ∙ e)))
+    (λ l. by-cases (decLt x (3 ^ n)) (λ r. (omega arith, omega arith, r))
+    (λ r. absurd (refused-done (sym (range-high n x (omega arith) (omega arith) (omega arith)) ∙ e)))))

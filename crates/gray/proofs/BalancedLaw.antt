@@ -1,19 +1,19 @@
 -- Balanced numbers: raised by the upper end a balanced number has each digit of its point one larger, so the two ways undo each other.
-use mathlib.Core.Path.{_≡_, refl, sym, ap, ap₂, _∙_, subst}
-use mathlib.Core.Bool.{Bool, true, false}
+use mathlib.Core.Path.{_≡_, refl, sym, ap, ap₂, _∙_}
+use mathlib.Core.Bool.{false}
 use mathlib.Core.Logic.{by-cases}
 use Prim.Native.Nat.{ℕ, zero, suc, _+_, _-_, _*_, _/_, _%_, _^_, _<_, _≤_}
 use native.Mathlib.Nat.{mod-lt, pow-zero, pow-suc}
 use native.Mathlib.Decide.{decLt}
 use native.Mathlib.Omega.{arith}
-use lib.IntN.{ℤ, pos, negsuc, negℤ, natAbs, _+ℤ_, _-ℤ_, _*ℤ_, +ℤ-assoc, +ℤ-comm, +ℤ-idl, +ℤ-idr, +ℤ-negℤ-cancel, sucℤ-*ℤ, zero-*ℤ, pos-ne-negsuc}
+use lib.IntN.{ℤ, pos, negsuc, negℤ, natAbs, _+ℤ_, _-ℤ_, _*ℤ_, +ℤ-assoc, +ℤ-comm, +ℤ-idl, +ℤ-negℤ-cancel, sucℤ-*ℤ, zero-*ℤ, pos-ne-negsuc}
 use lib.Signed.{ltZ}
 use borrow.Author.Tests.{le-ltb}
 use Rattle.gray.specs.Numbers.{digit, number}
 use Rattle.gray.specs.Balanced.{signedDigit, balancedOf, halfOf, turned, unbalancedOf}
 use Rattle.gray.proofs.DigitLaw.{digit-lt, digit-number, digits-same}
 use Rattle.gray.proofs.TurnLaw.{turned-next, turned-lt, turned-none}
-use Rattle.gray.proofs.SignLaw.{Raised, raised, sub-lt}
+use Rattle.gray.proofs.SignLaw.{raised, sub-lt}
 
 pub half-is : (n w : ℕ) → w ≡ 3 ^ n → (w - 1) / 2 ≡ halfOf n
 unfolding halfOf

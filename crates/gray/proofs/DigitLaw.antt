@@ -1,7 +1,7 @@
 -- Digits and numbers undo each other, over the base: by taking the lowest digit off.
 use mathlib.Core.Path.{_≡_, refl, sym, ap, ap₂, _∙_}
 use Prim.Native.Nat.{ℕ, zero, suc, _+_, _-_, _*_, _/_, _%_, _^_, _<_, _≤_}
-use native.Mathlib.Nat.{add-zero, pow-suc, pow-zero, div-one, mul-comm, mod-lt, mod-eq-of-lt, div-eq-of-lt, div-add-mod, div-div-eq-div-mul, div-lt-iff-lt-mul, mul-le-mul-left, pow-le-pow-right, one-le-pow}
+use native.Mathlib.Nat.{pow-suc, pow-zero, div-one, mul-comm, mod-lt, mod-eq-of-lt, div-eq-of-lt, div-add-mod, div-div-eq-div-mul, div-lt-iff-lt-mul, mul-le-mul-left, pow-le-pow-right}
 use native.Mathlib.Omega.{arith}
 use Rattle.gray.specs.Numbers.{digit, number}
 use Rattle.gray.proofs.GrayLaw.{div-of, mod-of}

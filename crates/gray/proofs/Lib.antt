@@ -9,3 +9,5 @@ pub mod TurnLaw
 pub mod AnswerLaw
 pub mod SignLaw
 pub mod BalancedLaw
+pub mod PowerLaw
+pub mod Cases

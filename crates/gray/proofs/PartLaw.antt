@@ -1,16 +1,17 @@
 -- What the code on positions uses: the bounds of 64 bits, and how a list of positions is read entry by entry.
 use mathlib.Core.Path.{_≡_, refl, sym, ap, ap₂, _∙_}
+use mathlib.Core.Logic.{by-cases}
 use mathlib.Core.List.{List, [], _∷_}
-use Prim.Native.Nat.{ℕ, zero, suc, _+_, _-_, _*_, _/_, _%_, _^_, _≤_, _<_}
+use Prim.Native.Nat.{ℕ, zero, suc, _-_, _*_, _^_, _≤_, _<_}
 use native.Mathlib.Nat.{one-le-pow, eq-of-mul-eq-mul-left}
+use native.Mathlib.Decide.{decLt}
 use native.Mathlib.Omega.{arith}
 use lib.ListN.{length, getD}
 use Rattle.gray.specs.Positions.{lowestIn, lowestOf, positions}
 use Rattle.gray.specs.Parts.{Splits, positionAt}
 use Rattle.gray.specs.declared.positions.Parts.{Parts}
-use Rattle.gray.specs.declared.positions.PositionAnswer.{PositionAnswer}
 use Rattle.gray.specs.declared.positions.PositionAnswer.the-variants.{At, NoMore}
-use Rattle.gray.proofs.LowestLaw.{of-lt, of-le}
+use Rattle.gray.proofs.LowestLaw.{of-lt}
 use Rattle.gray.proofs.PositionLaw.{positions-none, positions-next}
 
 pub lowest-none : (q : ℕ) → lowestOf q 0 ≡ 0
@@ -62,3 +63,7 @@ split-same p r s a b =
     let e : r .position ≡ s .position = a .position ∙ sym (b .position) in
     let w : 3 ^ s .position * r .rest ≡ 3 ^ s .position * s .rest = ap (λ (k : ℕ). 3 ^ k * r .rest) (sym e) ∙ sym (a .whole) ∙ b .whole in
     ap₂ (λ (i k : ℕ). record { position = i; rest = k }) e (eq-of-mul-eq-mul-left (3 ^ s .position) (one-le-pow (s .position) 3 (omega arith)) (r .rest) (s .rest) w)
+
+-- and what `power` promises is complete
+pub power-same : (k r s : ℕ) → (k ≤ 40 → r ≡ 3 ^ k) × (40 < k → r ≡ 0) → (k ≤ 40 → s ≡ 3 ^ k) × (40 < k → s ≡ 0) → r ≡ s
+power-same k r s a b = by-cases (decLt 40 k) (λ h. a .1 h ∙ sym (b .1 h)) (λ h. let l : k ≤ 40 = omega arith in a .0 l ∙ sym (b .0 l))

@@ -1,6 +1,6 @@
 -- One turn of each loop over digits: the weights, and the number so far from that of one digit less.
 use mathlib.Core.Path.{_≡_, refl, sym, ap, ap₂, _∙_}
-use Prim.Native.Nat.{ℕ, zero, suc, _+_, _-_, _*_, _/_, _%_, _^_, _<_, _≤_}
+use Prim.Native.Nat.{ℕ, suc, _+_, _-_, _*_, _/_, _%_, _^_, _<_, _≤_}
 use native.Mathlib.Nat.{mod-lt, div-one, pow-zero, pow-suc, mul-div-left, div-div-eq-div-mul, mod-add-mod, pow-le-pow-right, one-le-pow, mul-le-mul-left}
 use native.Mathlib.Numerals.{add-one}
 use native.Mathlib.Omega.{arith}
@@ -65,6 +65,9 @@ turned-lt a n x = number-lt 3 two n (λ k. (digit 3 x k + a) % 3) (λ k l. mod-l
 
 pub turned-small : (a i y : ℕ) → i ≤ 20 → turned a i y < 3486784401
 turned-small a i y h = omega (arith, turned-lt a i y, power-small i h)
+
+pub turned-word : (t a i y : ℕ) → i ≤ 20 → t ≡ turned a i y → t ≤ 4294967296
+turned-word t a i y h e = omega (arith, e, turned-small a i y h)
 
 pub turned-none : (a y : ℕ) → turned a 0 y ≡ 0
 unfolding turned number

@@ -1,5 +1,4 @@
 -- What the conversions answer, in document 01's numbers and values.
-use mathlib.Core.Bool.{Bool, true, false}
 use Prim.Native.Nat.{ℕ, _^_}
 use lib.Dec.{leb}
 use lib.IntN.{ℤ, pos, negℤ}

@@ -2,8 +2,10 @@
 use crate::BalancedAnswer;
 use crate::Point;
 use crate::PointAnswer;
+use crate::map::convertible;
 use crate::positions::power;
 use refusals::Refusal;
+use refusals::Verdict;
 ghost use mathlib.Core.Path.{_≡_};
 ghost use Prim.Native.Nat.{_≤_};
 ghost use lib.IntN.{pos, _-ℤ_};
@@ -41,19 +43,16 @@ pub fn to_balanced(n: u64, x: Point) -> BalancedAnswer
     ensures answer { λ r. ⌜ r ≡ balancedFrom (convertVerdict n (x .0)) (balancedOf n (x .0)) ⌝ }
     ensures number { λ r. ⌜ balancedTold r ≡ told (convertVerdict n (x .0)) (balancedOf n (x .0)) (pos 0) ⌝ }
 {
-    if n < 1 {
-        return BalancedAnswer::Refused(Refusal::Size);
+    let verdict = convertible(n, x.0);
+    match verdict {
+        Verdict::Refused(r) => BalancedAnswer::Refused(r),
+        Verdict::Done => {
+            let half = (power(n) - 1) / 2;
+            let raised = turn(1, n, x.0);
+            let number = minus(raised, half);
+            BalancedAnswer::At(number)
+        }
     }
-    if n > 20 {
-        return BalancedAnswer::Refused(Refusal::Size);
-    }
-    let end = power(n);
-    if x.0 >= end {
-        return BalancedAnswer::Refused(Refusal::Range);
-    }
-    let raised = turn(1, n, x.0);
-    let number = minus(raised, (end - 1) / 2);
-    BalancedAnswer::At(number)
 }
 
 // The point of n unknowns whose balanced number is y.

@@ -5,6 +5,7 @@ use crate::Point;
 use crate::PointAnswer;
 use crate::positions::power;
 use refusals::Refusal;
+use refusals::Verdict;
 ghost use mathlib.Core.Path.{_≡_};
 ghost use Prim.Native.Nat.{_≤_};
 ghost use Rattle.gray.specs.Numbers.{pointOf, placeOf};
@@ -47,23 +48,36 @@ fn place_at(n: u64, x: Point) -> Place
     Place(place)
 }
 
+// Whether place or point x of n unknowns is to be converted.
+pub fn convertible(n: u64, x: u64) -> Verdict
+    ensures { λ r. ⌜ r ≡ convertVerdict n x ⌝ }
+{
+    if n < 1 {
+        return Verdict::Refused(Refusal::Size);
+    }
+    if n > 20 {
+        return Verdict::Refused(Refusal::Size);
+    }
+    let end = power(n);
+    if x >= end {
+        return Verdict::Refused(Refusal::Range);
+    }
+    Verdict::Done
+}
+
 // The point at a place of the walk over n unknowns.
 pub fn point_of(n: u64, p: Place) -> PointAnswer
     ensures answer { λ r. ⌜ r ≡ pointFrom (convertVerdict n (p .0)) (pointOf 3 n (p .0)) ⌝ }
     ensures number { λ r. ⌜ pointTold r ≡ told (convertVerdict n (p .0)) (pointOf 3 n (p .0)) 0 ⌝ }
 {
-    if n < 1 {
-        return PointAnswer::Refused(Refusal::Size);
+    let verdict = convertible(n, p.0);
+    match verdict {
+        Verdict::Refused(r) => PointAnswer::Refused(r),
+        Verdict::Done => {
+            let point = point_at(n, p);
+            PointAnswer::At(point)
+        }
     }
-    if n > 20 {
-        return PointAnswer::Refused(Refusal::Size);
-    }
-    let end = power(n);
-    if p.0 >= end {
-        return PointAnswer::Refused(Refusal::Range);
-    }
-    let point = point_at(n, p);
-    PointAnswer::At(point)
 }
 
 // The place of a point of n unknowns.
@@ -71,16 +85,12 @@ pub fn place_of(n: u64, x: Point) -> PlaceAnswer
     ensures answer { λ r. ⌜ r ≡ placeFrom (convertVerdict n (x .0)) (placeOf 3 n (x .0)) ⌝ }
     ensures number { λ r. ⌜ placeTold r ≡ told (convertVerdict n (x .0)) (placeOf 3 n (x .0)) 0 ⌝ }
 {
-    if n < 1 {
-        return PlaceAnswer::Refused(Refusal::Size);
+    let verdict = convertible(n, x.0);
+    match verdict {
+        Verdict::Refused(r) => PlaceAnswer::Refused(r),
+        Verdict::Done => {
+            let place = place_at(n, x);
+            PlaceAnswer::At(place)
+        }
     }
-    if n > 20 {
-        return PlaceAnswer::Refused(Refusal::Size);
-    }
-    let end = power(n);
-    if x.0 >= end {
-        return PlaceAnswer::Refused(Refusal::Range);
-    }
-    let place = place_at(n, x);
-    PlaceAnswer::At(place)
 }

@@ -51,3 +51,11 @@ sized-next n m v w =
 
 pub sized-done : (n m : ℕ) (v : Verdict) → sized n m v ≡ Done → v ≡ Done
 sized-done n m v e = sym (sized-next n m v (sized-within n m v e)) ∙ e
+
+-- a test that refused refuses whatever is asked next
+pub refused-next : (b : Bool) (r f : Refusal) (v w : Verdict) → refuse b r v ≡ Refused f → (v ≡ Refused f → w ≡ Refused f) → refuse b r w ≡ Refused f
+refused-next true r f v w e h = e
+refused-next false r f v w e h = h e
+
+pub refused-last : (b : Bool) (r f : Refusal) (w : Verdict) → refuse b r Done ≡ Refused f → refuse b r w ≡ Refused f
+refused-last b r f w e = refused-next b r f Done w e (λ d. absurd (never f (sym d)))

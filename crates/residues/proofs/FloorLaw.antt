@@ -1,9 +1,9 @@
 -- `floorMod` is the floor remainder, and there is no other: a quotient of the wrong sign would change the sign of the number.
-use mathlib.Core.Path.{_≡_, refl, sym, ap, _∙_}
-use Prim.Native.Nat.{ℕ, zero, suc, _+_, _-_, _*_, _/_, _%_, _<_, _≤_}
+use mathlib.Core.Path.{_≡_, sym, ap, _∙_}
+use Prim.Native.Nat.{ℕ, zero, suc, _+_, _-_, _*_, _/_, _%_, _<_}
 use native.Mathlib.Nat.{div-add-mod, mod-lt, mod-eq-of-lt, mul-add-mod-self-left}
 use native.Mathlib.Omega.{arith}
-use lib.IntN.{ℤ, pos, negsuc, natAbs, _+ℤ_, _*ℤ_, negℤ, pos-ne-negsuc}
+use lib.IntN.{ℤ, pos, negsuc, natAbs, _+ℤ_, _*ℤ_, pos-ne-negsuc}
 use borrow.Author.Tests.{lt-ltb}
 use Rattle.residues.specs.Residue.{Remainder, floorMod, Reduced}
 

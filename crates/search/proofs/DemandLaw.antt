@@ -23,39 +23,17 @@ use Rattle.walks.specs.Cost.{costOf}
 use Rattle.walks.proofs.JoinLaw.{ends, demand3}
 use Rattle.walks.proofs.ZeroLaw.{run-holds, run-once, run-order}
 use Rattle.walks.proofs.CostLaw.{whole-two}
+use Rattle.walk.proofs.CallLaw.{zeros-all, all-zeros}
 use Rattle.search.specs.Opened.{systemOf, openedAt}
-use Rattle.search.specs.Search.{allZero, trailOf}
+use Rattle.search.specs.Search.{trailOf}
 use Rattle.search.specs.Session.{Request, Sums, sessionOf, fairOf, callsOf}
 use Rattle.search.specs.Demand.{CommonZero, fromStart, WholeWalk}
 use Rattle.search.proofs.PlaceLaw.{two}
+use Rattle.search.proofs.SystemLaw.{value-at}
 use Rattle.search.proofs.SessionLaw.{Same, session-is}
-
--- what the test of all equations says
-all-zero : (m : ℕ) (f : ℕ → ℕ) → allZero m f ≡ true → (e : ℕ) → e < m → f e % 3 ≡ 0
-unfolding allZero
-all-zero zero f t e h = absurd (omega arith)
-all-zero (suc m) f t e h =
-    by-cases (ℕ-discrete e m)
-    (λ (s : e ≡ m). rw s (eqb-true _ _ (and-right (allZero m f) (eqb (f m % 3) 0) t)))
-    (λ n. all-zero m f (and-left (allZero m f) (eqb (f m % 3) 0) t) e (omega arith))
-
-zero-all : (m : ℕ) (f : ℕ → ℕ) → ((e : ℕ) → e < m → f e % 3 ≡ 0) → allZero m f ≡ true
-unfolding allZero
-zero-all zero f h = refl
-zero-all (suc m) f h = ap₂ (λ (x y : Bool). x && y) (zero-all m f (λ e l. h e (omega arith))) (eq-eqb _ _ (h m (omega arith)))
 
 trans-iff : {A B C : Type 0} → A ↔ B → B ↔ C → A ↔ C
 trans-iff f g = (λ a. g .0 (f .0 a), λ c. f .1 (g .1 c))
-
--- a value looks at the unknowns below n alone
-pub value-at : (f : Poly) (n : ℕ) (x y : ℕ → ℕ) → ((k : ℕ) → k < n → x k ≡ y k) → valueOf f n x ≡ valueOf f n y
-unfolding valueOf
-value-at f n x y h =
-    ap₂ (λ (u v : ℕ). u + v)
-    (ap (λ (u : ℕ). f .const + u) (sum-ext n (λ i. f .lin i * x i) (λ i. f .lin i * y i) (λ i l. ap (λ (u : ℕ). f .lin i * u) (h i l))))
-    (sum-ext n (λ i. sum (n - i) (λ d. f .quad i (i + d) * (x i * x (i + d)))) (λ i. sum (n - i) (λ d. f .quad i (i + d) * (y i * y (i + d))))
-    (λ i l. sum-ext (n - i) (λ d. f .quad i (i + d) * (x i * x (i + d))) (λ d. f .quad i (i + d) * (y i * y (i + d)))
-    (λ d m. ap₂ (λ (u v : ℕ). f .quad i (i + d) * (u * v)) (h i l) (h (i + d) (omega arith)))))
 
 fair-one : (q : Request) (cs : List Call) → AllFair cs → (x y : Bool) → eqb (q .budget) 0 ≡ x → eqb (length (q .list)) 0 ≡ y
     → AllFair (fairOf (x || y) (record { budget = q .budget; room = length (q .list) }) cs)
@@ -86,7 +64,7 @@ module _ (n m : ℕ) (t : List ℕ) where
   distinct a b ha hb e = point-same 3 two n a b ha hb e
 
   pub cost-all : costIn T 0 (3 ^ n) ≡ 2 * (3 ^ n - 1) - n
-  unfolding trailOf
+  unfolding trailOf costOf
   cost-all = whole-two 3 two T n (λ p h. refl)
 
   -- the value at a place is the value at its point
@@ -100,12 +78,12 @@ module _ (n m : ℕ) (t : List ℕ) where
     λ z. record {
       point = rw (sym (z .3)) (point-lt 3 two n (z .0));
       zero = λ e h. ap (λ (y : ℕ). valueOf (systemOf n t e) n (digit 3 y) % 3) (sym (z .3)) ∙ ap (λ (y : ℕ). y % 3) (sym (value-point e (z .0)))
-          ∙ all-zero m (λ e. valueOf (systemOf n t e) n (pointDigit 3 (z .0))) (z .2) e h;
+          ∙ zeros-all m (λ e. valueOf (systemOf n t e) n (pointDigit 3 (z .0))) (z .2) e h;
     },
     λ c. let o = point-onto 3 two n x (c .point) in (
       o .0,
       o .1,
-      zero-all m (λ e. valueOf (systemOf n t e) n (pointDigit 3 (o .0)))
+      all-zeros m (λ e. valueOf (systemOf n t e) n (pointDigit 3 (o .0)))
           (λ e h. ap (λ (y : ℕ). y % 3) (value-point e (o .0)) ∙ ap (λ (y : ℕ). valueOf (systemOf n t e) n (digit 3 y) % 3) (o .2) ∙ c .zero e h),
       o .2,
     ),

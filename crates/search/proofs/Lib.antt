@@ -8,3 +8,5 @@ pub mod SlotsLaw
 pub mod SystemLaw
 pub mod DemandLaw
 pub mod Starred
+pub mod OpenLaw
+pub mod RanLaw

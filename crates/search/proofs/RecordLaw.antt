@@ -3,10 +3,14 @@ use mathlib.Core.Path.{_≡_, refl, sym, ap, ap₂, _∙_}
 use mathlib.Core.Bool.{Bool, true, false, _&&_}
 use mathlib.Core.Logic.{_↔_}
 use mathlib.Core.List.{List, [], _∷_}
-use Prim.Native.Nat.{ℕ, zero, suc}
+use Prim.Native.Nat.{ℕ, zero, suc, _+_, _≤_, _<_}
+use native.Mathlib.Numerals.{add-one}
 use lib.Dec.{eqb}
+use lib.ListN.{length, getD, drop, drop-of-length-le}
+use lib.Seq.{drop-cons}
 use borrow.Author.Tests.{eqb-true, eq-eqb}
 use Rattle.trits.specs.declared.Vector.{Vector}
+use Rattle.trits.specs.Trit.{none}
 use Rattle.trits.proofs.Bits.{and-left, and-right}
 use Rattle.search.specs.declared.Record.{Record}
 use Rattle.search.specs.Search.{sameVector, sameVectors, sameRecord}
@@ -83,3 +87,23 @@ record-self r =
 
 pub record-iff : (r s : Record) → (sameRecord r s ≡ true) ↔ (r ≡ s)
 record-iff r s = (record-same r s, λ e. ap (sameRecord r) (sym e) ∙ record-self r)
+
+-- ---- the comparison of slots from the front on
+pub same-next : (a b : List Vector) (i : ℕ) → i < length a → i < length b
+    → sameVectors (drop i a) (drop i b) ≡ (sameVector (getD a i none) (getD b i none) && sameVectors (drop (i + 1) a) (drop (i + 1) b))
+unfolding sameVectors
+same-next a b i ha hb = ap₂ sameVectors (drop-cons a i none ha) (drop-cons b i none hb) ∙ rw (add-one i)
+
+pub same-end : (a b : List Vector) (i : ℕ) → length a ≤ i → length b ≤ i → sameVectors (drop i a) (drop i b) ≡ true
+unfolding sameVectors
+same-end a b i ha hb = ap₂ sameVectors (drop-of-length-le a ha) (drop-of-length-le b hb)
+
+module _ (a b : List Vector) (i : ℕ) (ha : i < length a) (hb : i < length b) (x : Bool) (e : x ≡ sameVector (getD a i none) (getD b i none)) (w : Bool)
+    (rest : sameVectors (drop i a) (drop i b) ≡ w) where
+  pub same-stop : x ≡ false → false ≡ w
+  same-stop f =
+      sym (ap (λ (z : Bool). z && sameVectors (drop (i + 1) a) (drop (i + 1) b)) (sym e ∙ f)) ∙ sym (same-next a b i ha hb) ∙ rest
+
+  pub same-go : x ≡ true → sameVectors (drop (i + 1) a) (drop (i + 1) b) ≡ w
+  same-go f =
+      sym (ap (λ (z : Bool). z && sameVectors (drop (i + 1) a) (drop (i + 1) b)) (sym e ∙ f)) ∙ sym (same-next a b i ha hb) ∙ rest

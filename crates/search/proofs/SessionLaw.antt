@@ -26,9 +26,9 @@ abbrev step : Verdict → Report → Record → Record → List ℕ → List ℕ
 step v a r s k l rest =
     record {
       last = rest (after v r s) .last;
-      points = pointsOf (answerFrom v a) + rest (after v r s) .points;
-      additions = additionsOf (answerFrom v a) + rest (after v r s) .additions;
-      listed = listedOf (answerFrom v a) (after v k l) ++ rest (after v r s) .listed;
+      points = pointsOf (answerFrom v (record { answer = Ran a; «record» = s })) + rest (after v r s) .points;
+      additions = additionsOf (answerFrom v (record { answer = Ran a; «record» = s })) + rest (after v r s) .additions;
+      listed = listedOf (answerFrom v (record { answer = Ran a; «record» = s })) (after v k l) ++ rest (after v r s) .listed;
     }
 
 module _ (n m : ℕ) (t : List ℕ) where

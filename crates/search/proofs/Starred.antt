@@ -15,13 +15,13 @@ use Rattle.gray.specs.Balanced.{signedDigit, balancedOf}
 use Rattle.polynomials.specs.Poly.{Poly, valueOf, bumped, changeOf, prev, tableOf, prevOf, backOf}
 use Rattle.tables.specs.Monomials.{countOf, rowStart, indexOf, productNth, nth}
 use Rattle.tables.specs.Words.{entry, tabled, legalFront, polyAt, wordsOf, packed, differencesOf}
-use Rattle.walks.specs.Cost.{costOf}
 use Rattle.walks.specs.Calls.{Trail, zerosIn, costIn, pointsIn, reportOf, listAfter, stopNumber}
+use Rattle.walk.specs.Meaning.{zeros}
 use Rattle.search.specs.declared.Outcome.{Outcome}
 use Rattle.search.specs.declared.Answer.{Answer}
 use Rattle.search.specs.declared.Answer.the-variants.{Ran, Refused}
 use Rattle.search.specs.Opened.{systemOf, valueAt, slotAt, slotsAt, openedAt}
-use Rattle.search.specs.Search.{allZero, trailOf, sameVectors, sameRecord, outcomeOf, listOf}
+use Rattle.search.specs.Search.{trailOf, sameVectors, sameRecord, outcomeOf, listOf}
 
 -- a case: what the definitions give, and what document 01 says
 record Row : Type 0 where
@@ -80,5 +80,5 @@ rows =
     ∷ []
 
 pub starred : map (λ r. r .gives) rows ≡ map (λ r. r .says) rows
-unfolding sum same bit trit fromBits ofTrits productOf lowestIn lowestOf positionsIn positions latest digit number pointDigit pointOf signedDigit balancedOf valueOf bumped changeOf prev tableOf prevOf backOf countOf rowStart indexOf productNth nth entry tabled legalFront polyAt wordsOf packed differencesOf costOf zerosIn costIn pointsIn reportOf listAfter systemOf valueAt slotAt slotsAt openedAt allZero trailOf sameVectors sameRecord
+unfolding sum same bit trit fromBits ofTrits productOf lowestIn lowestOf positionsIn positions latest digit number pointDigit pointOf signedDigit balancedOf valueOf bumped changeOf prev tableOf prevOf backOf countOf rowStart indexOf productNth nth entry tabled legalFront polyAt wordsOf packed differencesOf zerosIn costIn pointsIn reportOf listAfter systemOf valueAt slotAt slotsAt openedAt zeros trailOf sameVectors sameRecord
 starred = refl

@@ -13,7 +13,7 @@ use lib.Seq.{ext-getD}
 use borrow.Author.Tests.{lt-ltb, le-ltb}
 use Rattle.residues.specs.Sums.{sum, same}
 use Rattle.residues.proofs.ModLaw.{Cong, crefl, cof, csym, _⨾_, cadd, cmul}
-use Rattle.residues.proofs.SumLaw.{sum-cong}
+use Rattle.residues.proofs.SumLaw.{sum-cong, sum-ext}
 use Rattle.trits.specs.declared.Vector.{Vector}
 use Rattle.trits.specs.Trit.{Holds, ofTrits, none}
 use Rattle.trits.proofs.ExtLaw.{of-ext}
@@ -28,6 +28,16 @@ use Rattle.search.specs.Opened.{systemOf, valueAt, slotOr, slotAt, slots
 use Rattle.search.specs.Parts.{Slots}
 use Rattle.search.proofs.PlaceLaw.{two}
 use Rattle.search.proofs.HoldLaw.{holds-is}
+
+-- a value looks at the unknowns below n alone
+pub value-at : (f : Poly) (n : ℕ) (x y : ℕ → ℕ) → ((k : ℕ) → k < n → x k ≡ y k) → valueOf f n x ≡ valueOf f n y
+unfolding valueOf
+value-at f n x y h =
+    ap₂ (λ (u v : ℕ). u + v)
+    (ap (λ (u : ℕ). f .const + u) (sum-ext n (λ i. f .lin i * x i) (λ i. f .lin i * y i) (λ i l. ap (λ (u : ℕ). f .lin i * u) (h i l))))
+    (sum-ext n (λ i. sum (n - i) (λ d. f .quad i (i + d) * (x i * x (i + d)))) (λ i. sum (n - i) (λ d. f .quad i (i + d) * (y i * y (i + d))))
+    (λ i l. sum-ext (n - i) (λ d. f .quad i (i + d) * (x i * x (i + d))) (λ d. f .quad i (i + d) * (y i * y (i + d)))
+    (λ d m. ap₂ (λ (u v : ℕ). f .quad i (i + d) * (u * v)) (h i l) (h (i + d) (omega arith)))))
 
 -- ---- polynomials that agree modulo q have the same values and changes
 module _ (q n : ℕ) (f g : Poly) (a : Agree q n f g) (x : ℕ → ℕ) where
@@ -57,13 +67,14 @@ module _ (n m : ℕ) (t : List ℕ) where
   unfolding systemOf
   agrees e h = coefficients-hold n m t e h
 
-  -- the value, from the coefficients
-  pub value-is : (p : ℕ) (v : Vector) → Holds m (λ e. valueOf (polyAt n C e) n (pointDigit 3 p)) v → v ≡ valueAt n m t p
+  -- the value, from the coefficients at the digits of the point
+  pub value-here : (p : ℕ) (x : ℕ → ℕ) → ((k : ℕ) → k < n → x k ≡ pointDigit 3 p k)
+      → ofTrits m (λ e. valueOf (polyAt n C e) n x) ≡ valueAt n m t p
   unfolding valueAt
-  value-is p v h =
-      holds-is h
-      ∙ of-ext m (λ e. valueOf (polyAt n C e) n (pointDigit 3 p)) (λ e. valueOf (systemOf n t e) n (pointDigit 3 p))
-      (λ e l. value-agree 3 n (polyAt n C e) (systemOf n t e) (agrees e l) (pointDigit 3 p) .same)
+  value-here p x h =
+      of-ext m (λ e. valueOf (polyAt n C e) n x) (λ e. valueOf (systemOf n t e) n (pointDigit 3 p))
+      (λ e l. ap (λ (y : ℕ). y % 3) (value-at (polyAt n C e) n x (pointDigit 3 p) h)
+      ∙ value-agree 3 n (polyAt n C e) (systemOf n t e) (agrees e l) (pointDigit 3 p) .same)
 
   -- one slot
   pub slot-is : (q b : ℕ) (v : Vector) → b < n → Holds m (λ e. diff (polyAt n C e) n b (pointDigit 3 (latest 3 b q - 1))) v → v ≡ slotAt n m t q b
@@ -76,17 +87,17 @@ module _ (n m : ℕ) (t : List ℕ) where
       ∙ ap (λ (y : ℕ). y % 3) (diff-change 3 two (systemOf n t e) n b x h))
       ∙ sym (ap (λ (z : Bool). slotOr z (ofTrits m (λ e. changeOf 3 (systemOf n t e) n b x))) (lt-ltb b n h))
 
-  slot-none : (q b : ℕ) → n ≤ b → slotAt n m t q b ≡ none
+  pub slot-none : (q b : ℕ) → n ≤ b → slotAt n m t q b ≡ none
   unfolding slotAt
   slot-none q b h = ap (λ (z : Bool). slotOr z (ofTrits m (λ e. changeOf 3 (systemOf n t e) n b (pointDigit 3 (latest 3 b q - 1))))) (le-ltb b n h)
 
   -- all slots
-  slots-length : (q b k : ℕ) → length (slotsAt n m t q b k) ≡ k
+  pub slots-length : (q b k : ℕ) → length (slotsAt n m t q b k) ≡ k
   unfolding slotsAt
   slots-length q b zero = refl
   slots-length q b (suc k) = ap suc (slots-length q (suc b) k)
 
-  slots-at : (q b k i : ℕ) → i < k → getD (slotsAt n m t q b k) i none ≡ slotAt n m t q (b + i)
+  pub slots-at : (q b k i : ℕ) → i < k → getD (slotsAt n m t q b k) i none ≡ slotAt n m t q (b + i)
   unfolding slotsAt
   slots-at q b zero i h = absurd (omega arith)
   slots-at q b (suc k) zero h = ap (slotAt n m t q) (plain b)

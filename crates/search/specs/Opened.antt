@@ -4,9 +4,10 @@ use mathlib.Core.List.{List, [], _∷_}
 use Prim.Native.Nat.{ℕ, zero, suc, _-_, _^_}
 use lib.Dec.{ltb}
 use lib.ListN.{replicate}
+use Rattle.refusals.specs.declared.Refusal.{Refusal}
 use Rattle.refusals.specs.declared.Refusal.the-variants.{Range}
 use Rattle.refusals.specs.declared.Verdict.{Verdict}
-use Rattle.refusals.specs.declared.Verdict.the-variants.{Done}
+use Rattle.refusals.specs.declared.Verdict.the-variants.{Done, Refused}
 use Rattle.refusals.specs.Refusal.{refuse, sized, after}
 use Rattle.trits.specs.declared.Vector.{Vector}
 use Rattle.trits.specs.Trit.{ofTrits, none}
@@ -48,6 +49,10 @@ openedAt n m t p =
 -- the record of zeros
 abbrev pub noRecord : Record
 noRecord = record { n = 0; m = 0; place = record { 0 = 0 }; value = none; slots = replicate 20 none }
+
+-- a refusal, which gives its number alone
+abbrev pub refusedOpen : Refusal → Opened
+refusedOpen f = record { verdict = Refused f; «record» = noRecord }
 
 -- what opening answers
 abbrev pub openVerdict : ℕ → ℕ → List ℕ → ℕ → Verdict

@@ -1,7 +1,7 @@
 -- What one call of the search gives, for every table, record, budget and list whatever.
 use mathlib.Core.Bool.{Bool, true, false, not, _&&_}
 use mathlib.Core.List.{List, [], _∷_}
-use Prim.Native.Nat.{ℕ, zero, suc, _+_, _%_, _^_}
+use Prim.Native.Nat.{ℕ, _+_, _^_}
 use lib.Dec.{eqb, leb}
 use lib.ListN.{length}
 use Rattle.refusals.specs.declared.Refusal.the-variants as refusal
@@ -9,33 +9,20 @@ use Rattle.refusals.specs.declared.Verdict.{Verdict}
 use Rattle.refusals.specs.declared.Verdict.the-variants as verdict
 use Rattle.refusals.specs.Refusal.{numberOf, refuse, sized, after}
 use Rattle.trits.specs.declared.Vector.{Vector}
-use Rattle.gray.specs.Numbers.{pointDigit, pointOf}
-use Rattle.polynomials.specs.Poly.{valueOf}
 use Rattle.tables.specs.Answers.{long, paired}
-use Rattle.walks.specs.Cost.{costOf}
 use Rattle.walks.specs.Calls.{Trail, pointsIn, reportOf, listAfter}
 use Rattle.walks.specs.declared.Report.{Report}
+use Rattle.walk.specs.Meaning.{trailOf as walkTrail}
 use Rattle.search.specs.declared.Record.{Record}
 use Rattle.search.specs.declared.Answer.{Answer}
 use Rattle.search.specs.declared.Answer.the-variants.{Ran, Refused}
 use Rattle.search.specs.declared.Outcome.{Outcome}
 use Rattle.search.specs.Opened.{systemOf, openedAt}
 
--- whether m numbers are all 0 modulo 3
-unfoldable pub allZero : ℕ → (ℕ → ℕ) → Bool
-allZero zero f = true
-allZero (suc m) f = allZero m f && eqb (f m % 3) 0
-
--- the walk of a table: 3^n places; a zero is a common zero of the m equations, listed as its point;
--- a place costs an addition for each of its first two positions
+-- the walk of the system behind a table (walk/specs/Meaning): 3^n places; a zero is a common zero of the m equations,
+-- listed as its point; a place costs an addition for its value and one more where it has a second position
 unfoldable pub trailOf : ℕ → ℕ → List ℕ → Trail
-trailOf n m t =
-    record {
-      end = 3 ^ n;
-      zeroAt = λ p. allZero m (λ e. valueOf (systemOf n t e) n (pointDigit 3 p));
-      entry = pointOf 3 n;
-      cost = costOf 3 2;
-    }
+trailOf n m t = walkTrail (systemOf n t) n m (3 ^ n)
 
 -- whether two vectors, two lists of them and two records are the same
 abbrev pub sameVector : Vector → Vector → Bool
@@ -63,17 +50,24 @@ searchVerdict n m t r b l =
     (refuse (not (fits n m t r)) refusal.Record (refuse (eqb b 0) refusal.Budget (refuse (eqb (length l) 0) refusal.List verdict.Done)))))
 
 -- the answer: what the call did, or the refusal alone
-abbrev pub answerFrom : Verdict → Report → Answer
-answerFrom verdict.Done r = Ran r
-answerFrom (verdict.Refused f) r = Refused f
+abbrev pub answerFrom : Verdict → Outcome → Answer
+answerFrom verdict.Done o = o .answer
+answerFrom (verdict.Refused f) o = Refused f
 
--- the record after: opened at the place to which the call came
-abbrev pub outcomeOf : ℕ → ℕ → List ℕ → Record → ℕ → List ℕ → Outcome
-outcomeOf n m t r b l =
+-- a call from place p that nothing refuses, with budget b and a list of c entries: its report, and the record opened at the place to which it came
+abbrev pub ranOf : ℕ → ℕ → List ℕ → ℕ → ℕ → ℕ → Outcome
+ranOf n m t p b c =
     record {
-      answer = answerFrom (searchVerdict n m t r b l) (reportOf (trailOf n m t) b (length l) (r .place .0));
-      «record» = after (searchVerdict n m t r b l) r (openedAt n m t (r .place .0 + pointsIn (trailOf n m t) b (length l) (r .place .0)));
+      answer = Ran (reportOf (trailOf n m t) b c p);
+      «record» = openedAt n m t (p + pointsIn (trailOf n m t) b c p);
     }
+
+-- a call, by the verdict: the record as it was where it is refused
+abbrev pub outcomeFrom : Verdict → Record → Outcome → Outcome
+outcomeFrom v r o = record { answer = answerFrom v o; «record» = after v r (o .«record») }
+
+abbrev pub outcomeOf : ℕ → ℕ → List ℕ → Record → ℕ → List ℕ → Outcome
+outcomeOf n m t r b l = outcomeFrom (searchVerdict n m t r b l) r (ranOf n m t (r .place .0) b (length l))
 
 -- the list after: the zeros from the front, the rest as it was
 abbrev pub listOf : ℕ → ℕ → List ℕ → Record → ℕ → List ℕ → List ℕ

@@ -1,5 +1,7 @@
 // The record of a table at a place, worked out from the coefficients: no walking, the same work at every place.
 
+use crate::Record;
+use gray::Place;
 use trits::Vector;
 ghost use mathlib.Core.Path.{_≡_};
 ghost use mathlib.Core.List.{List};
@@ -11,6 +13,9 @@ ghost use Rattle.gray.specs.Numbers.{pointDigit};
 ghost use Rattle.polynomials.specs.Poly.{slope, diff};
 ghost use Rattle.tables.specs.Words.{polyAt, Table};
 ghost use Rattle.tables.specs.Monomials.{countOf};
+ghost use Rattle.refusals.specs.declared.Verdict.the-variants.{Done};
+ghost use Rattle.tables.specs.Answers.{checkedOf};
+ghost use Rattle.search.specs.Opened.{openedAt};
 ghost use Rattle.search.specs.Parts.{Slots};
 
 // The digits of the point at a place.
@@ -105,4 +110,41 @@ fn slots(c: &[u64], n: usize, q: u64) -> [Vector; 20]
         b += 1;
     }
     s
+}
+
+// The latest place examined when place p is next: p - 1, or 0 at the start.
+fn latest_place(p: u64) -> u64
+    ensures { λ r. ⌜ r ≡ p - 1 ⌝ }
+{
+    if p == 0 { 0 } else { p - 1 }
+}
+
+// The record of a checked table at a place; c is room for its coefficients.
+fn fill(n: u64, m: u64, table: &[u64], place: u64, c: &mut [u64]) -> Record
+    requires { ⌜ (checkedOf n m (now table) ≡ Done) × (place ≤ 3 ^ n) × (length (now c) ≡ 2 * countOf n) ⌝ }
+    ensures { λ r. ⌜ r ≡ openedAt n m (now (table .entry)) place ⌝ }
+{
+    let k = n as usize;
+    let q = latest_place(place);
+    let x = digits(k, q);
+    tables::coefficients(n, m, table, c);
+    let value = tables::value_at(c, k, &x);
+    let slots = slots(c, k, q);
+    Record {
+        n,
+        m,
+        place: Place(place),
+        value,
+        slots,
+    }
+}
+
+// The record of a checked table at a place.
+pub fn opened(n: u64, m: u64, table: &[u64], place: u64) -> Record
+    requires { ⌜ (checkedOf n m (now table) ≡ Done) × (place ≤ 3 ^ n) ⌝ }
+    ensures { λ r. ⌜ r ≡ openedAt n m (now (table .entry)) place ⌝ }
+{
+    let mut c = [0u64; 462];
+    let len = table.len();
+    fill(n, m, table, place, &mut c[..len])
 }

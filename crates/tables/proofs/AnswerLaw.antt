@@ -2,18 +2,22 @@
 use mathlib.Core.Path.{_≡_, refl, sym, ap, _∙_}
 use mathlib.Core.Bool.{Bool, true, false, not, true≢false, false≢true}
 use mathlib.Core.List.{List}
-use Prim.Native.Nat.{ℕ, _*_, _≤_, _<_}
+use Prim.Native.Nat.{ℕ, _*_, _^_, _≤_, _<_}
 use native.Mathlib.Omega.{arith}
-use lib.Dec.{ltb, eqb}
+use lib.Dec.{ltb, leb, eqb}
+use lib.IntN.{ℤ}
 use lib.ListN.{length}
-use borrow.Author.Tests.{lt-ltb, le-ltb, eq-eqb, ne-eqb}
-use Rattle.refusals.specs.declared.Refusal.the-variants.{Size, Length, Pair}
+use borrow.Author.Tests.{lt-ltb, le-ltb, le-leb, lt-leb, eq-eqb, ne-eqb, ltb-false, eqb-true, not-false}
+use Rattle.refusals.specs.declared.Refusal.{Refusal}
+use Rattle.refusals.specs.declared.Refusal.the-variants.{Size, Length, Pair, Range}
 use Rattle.refusals.specs.declared.Verdict.{Verdict}
 use Rattle.refusals.specs.declared.Verdict.the-variants.{Done, Refused}
 use Rattle.refusals.specs.Refusal.{refuse, sized}
 use Rattle.tables.specs.Monomials.{countOf}
-use Rattle.tables.specs.Words.{legalFront}
-use Rattle.tables.specs.Answers.{SizeTest, long, paired, checkedOf, copyVerdict}
+use Rattle.tables.specs.Words.{legalFront, Table, valuesAt}
+use Rattle.tables.specs.Answers.{SizeTest, long, paired, checkedOf, copyVerdict, packVerdict, valued, evaluateOf}
+use Rattle.tables.specs.declared.Evaluated.the-variants as evaluated
+use Rattle.tables.proofs.WordLaw.{front-of}
 
 -- refusal 1
 pub size-refused : (n m : ℕ) → ((v : Verdict) → sized n m v ≡ Refused Size) → SizeTest n m false
@@ -81,3 +85,120 @@ module _ (n m : ℕ) (from to : List ℕ) (sizes : (v : Verdict) → sized n m v
 
       pub copy-done : (f : ℕ) → f ≡ legalFront m from → k ≤ f → copyVerdict n m from to ≡ Done
       copy-done f e h = lengths ∙ pair-passed n m from Done (omega arith)
+
+-- ---- what is known where nothing is refused
+done-not : {r : Refusal} → Refused r ≡ Done → ⊥
+done-not e = let z : _≡_ {A = ℕ} 0 1 = cc in omega arith
+
+pub refuse-done : (b : Bool) (r : Refusal) (v : Verdict) → refuse b r v ≡ Done → (b ≡ false) × (v ≡ Done)
+refuse-done true r v e = absurd (done-not e)
+refuse-done false r v e = (refl, e)
+
+pub sized-done : (n m : ℕ) (v : Verdict) → sized n m v ≡ Done → (1 ≤ n) × (n ≤ 20) × (1 ≤ m) × (m ≤ 64) × (v ≡ Done)
+sized-done n m v e =
+    let a = refuse-done (ltb n 1) Size _ e in
+    let b = refuse-done (ltb 20 n) Size _ (a .1) in
+    let c = refuse-done (ltb m 1) Size _ (b .1) in
+    let d = refuse-done (ltb 64 m) Size v (c .1) in
+    (ltb-false n 1 (a .0), ltb-false 20 n (b .0), ltb-false m 1 (c .0), ltb-false 64 m (d .0), d .1)
+
+pub long-done : (n : ℕ) (t : List ℕ) (v : Verdict) → long n t v ≡ Done → (length t ≡ 2 * countOf n) × (v ≡ Done)
+long-done n t v e =
+    let a = refuse-done (not (eqb (length t) (2 * countOf n))) Length v e in
+    (eqb-true (length t) (2 * countOf n) (not-false _ (a .0)), a .1)
+
+pub paired-done : (n m : ℕ) (t : List ℕ) (v : Verdict) → length t ≡ 2 * countOf n → paired n m t v ≡ Done → Table n m t × (v ≡ Done)
+paired-done n m t v l e =
+    let a = refuse-done (ltb (legalFront m t) (countOf n)) Pair v e in
+    let b = ltb-false (legalFront m t) (countOf n) (a .0) in
+    let f = front-of m (countOf n) t l in
+    (record { size = l; legal = λ k h. f .below k (omega arith) }, a .1)
+
+-- a copy that is not refused: its sizes, a legal table read, and room for the other
+pub record Ready (n m : ℕ) (from to : List ℕ) : Type 0 where
+  pub least : 1 ≤ n
+  pub most : n ≤ 20
+  pub table : Table n m from
+  pub room : length to ≡ 2 * countOf n
+
+pub copy-ready : (n m : ℕ) (from to : List ℕ) → copyVerdict n m from to ≡ Done → Ready n m from to
+copy-ready n m from to e =
+    let a = sized-done n m (long n from (long n to (paired n m from Done))) e in
+    let b = long-done n from (long n to (paired n m from Done)) (a .4) in
+    let c = long-done n to (paired n m from Done) (b .1) in
+    let d = paired-done n m from Done (b .0) (c .1) in
+    record { least = a .0; most = a .1; table = d .0; room = c .0 }
+
+-- ---- a table judged, and what is asked after it
+pub checked-ready : (n m : ℕ) (t : List ℕ) → checkedOf n m t ≡ Done → (n ≤ 20) × Table n m t
+checked-ready n m t e =
+    let a = sized-done n m (long n t (paired n m t Done)) e in
+    let b = long-done n t (paired n m t Done) (a .4) in
+    (a .1, paired-done n m t Done (b .0) (b .1) .0)
+
+refuse-then : (b : Bool) (s r : Refusal) (f : Verdict → Verdict) (v : Verdict) → (f Done ≡ Refused r → f v ≡ Refused r) → refuse b s (f Done) ≡ Refused r → refuse b s (f v) ≡ Refused r
+refuse-then true s r f v h e = e
+refuse-then false s r f v h e = h e
+
+last-then : (b : Bool) (s r : Refusal) (v : Verdict) → refuse b s Done ≡ Refused r → refuse b s v ≡ Refused r
+last-then true s r v e = e
+last-then false s r v e = absurd (done-not (sym e))
+
+refuse-pass : (b : Bool) (s : Refusal) (f : Verdict → Verdict) (v : Verdict) → (f Done ≡ Done → f v ≡ v) → refuse b s (f Done) ≡ Done → refuse b s (f v) ≡ v
+refuse-pass true s f v h e = absurd (done-not e)
+refuse-pass false s f v h e = h e
+
+last-pass : (b : Bool) (s : Refusal) (v : Verdict) → refuse b s Done ≡ Done → refuse b s v ≡ v
+last-pass true s v e = absurd (done-not e)
+last-pass false s v e = refl
+
+abbrev then : ℕ → ℕ → List ℕ → Verdict → Verdict
+then n m t v = sized n m (long n t (paired n m t v))
+
+-- a refusal of the table comes before what is asked next
+pub checked-refused : (n m : ℕ) (t : List ℕ) (r : Refusal) (v : Verdict) → checkedOf n m t ≡ Refused r → then n m t v ≡ Refused r
+checked-refused n m t r v =
+    refuse-then (ltb n 1) Size r (λ u. refuse (ltb 20 n) Size (refuse (ltb m 1) Size (refuse (ltb 64 m) Size (long n t (paired n m t u))))) v
+    (refuse-then (ltb 20 n) Size r (λ u. refuse (ltb m 1) Size (refuse (ltb 64 m) Size (long n t (paired n m t u)))) v
+    (refuse-then (ltb m 1) Size r (λ u. refuse (ltb 64 m) Size (long n t (paired n m t u))) v
+    (refuse-then (ltb 64 m) Size r (λ u. long n t (paired n m t u)) v
+    (refuse-then (not (eqb (length t) (2 * countOf n))) Length r (λ u. paired n m t u) v
+    (last-then (ltb (legalFront m t) (countOf n)) Pair r v)))))
+
+pub checked-passed : (n m : ℕ) (t : List ℕ) (v : Verdict) → checkedOf n m t ≡ Done → then n m t v ≡ v
+checked-passed n m t v =
+    refuse-pass (ltb n 1) Size (λ u. refuse (ltb 20 n) Size (refuse (ltb m 1) Size (refuse (ltb 64 m) Size (long n t (paired n m t u))))) v
+    (refuse-pass (ltb 20 n) Size (λ u. refuse (ltb m 1) Size (refuse (ltb 64 m) Size (long n t (paired n m t u)))) v
+    (refuse-pass (ltb m 1) Size (λ u. refuse (ltb 64 m) Size (long n t (paired n m t u))) v
+    (refuse-pass (ltb 64 m) Size (λ u. long n t (paired n m t u)) v
+    (refuse-pass (not (eqb (length t) (2 * countOf n))) Length (λ u. paired n m t u) v
+    (last-pass (ltb (legalFront m t) (countOf n)) Pair v)))))
+
+-- evaluation, case by case
+pub value-refused : (n m : ℕ) (t : List ℕ) (x : ℕ) (r : Refusal) → checkedOf n m t ≡ Refused r → evaluateOf n m t x ≡ evaluated.Refused r
+value-refused n m t x r e = ap (λ (v : Verdict). valued v (valuesAt n m t x)) (checked-refused n m t r (refuse (leb (3 ^ n) x) Range Done) e)
+
+pub value-outside : (n m : ℕ) (t : List ℕ) (x : ℕ) → checkedOf n m t ≡ Done → 3 ^ n ≤ x → evaluateOf n m t x ≡ evaluated.Refused Range
+value-outside n m t x e h =
+    ap (λ (v : Verdict). valued v (valuesAt n m t x))
+    (checked-passed n m t (refuse (leb (3 ^ n) x) Range Done) e ∙ ap (λ (b : Bool). refuse b Range Done) (le-leb (3 ^ n) x h))
+
+pub value-inside : (n m : ℕ) (t : List ℕ) (x : ℕ) → checkedOf n m t ≡ Done → x < 3 ^ n → evaluateOf n m t x ≡ evaluated.Value (valuesAt n m t x)
+value-inside n m t x e h =
+    ap (λ (v : Verdict). valued v (valuesAt n m t x))
+    (checked-passed n m t (refuse (leb (3 ^ n) x) Range Done) e ∙ ap (λ (b : Bool). refuse b Range Done) (lt-leb (3 ^ n) x h))
+
+-- ---- packing, test after test
+module _ (n m : ℕ) (rows : List ℤ) (t : List ℕ) (sizes : (v : Verdict) → sized n m v ≡ v) (k : ℕ) (count : k ≡ countOf n) where
+  pub pack-rows : (length rows ≡ m * k → ⊥) → packVerdict n m rows t ≡ Refused Length
+  pack-rows d = sizes _ ∙ rw (ne-eqb (length rows) (m * countOf n) (λ e. d (e ∙ ap (λ (x : ℕ). m * x) (sym count))))
+
+  module _ (read : length rows ≡ m * k) where
+    rows-passed : packVerdict n m rows t ≡ long n t Done
+    rows-passed = sizes _ ∙ rw (eq-eqb (length rows) (m * countOf n) (read ∙ ap (λ (x : ℕ). m * x) count))
+
+    pub pack-table : (length t ≡ 2 * k → ⊥) → packVerdict n m rows t ≡ Refused Length
+    pack-table d = rows-passed ∙ long-refused n t Done (λ e. d (e ∙ ap (λ (x : ℕ). 2 * x) (sym count)))
+
+    pub pack-done : length t ≡ 2 * k → packVerdict n m rows t ≡ Done
+    pack-done e = rows-passed ∙ long-passed n t Done (e ∙ ap (λ (x : ℕ). 2 * x) count)

@@ -5,3 +5,9 @@ pub mod AgreeLaw
 pub mod RoundLaw
 pub mod EntryLaw
 pub mod AnswerLaw
+pub mod VectorLaw
+pub mod WriteLaw
+pub mod TurnLaw
+pub mod EvaluateLaw
+pub mod PackLaw
+pub mod Cases

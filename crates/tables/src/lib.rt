@@ -4,11 +4,20 @@ use refusals::Refusal;
 use trits::Vector;
 
 mod checks;
+mod evaluation;
+mod formulas;
 mod monomials;
+mod rows;
 
 pub use checks::check;
+pub use evaluation::digits;
+pub use evaluation::evaluate;
+pub use evaluation::value_at;
+pub use formulas::coefficients;
+pub use formulas::differences;
 pub use monomials::entry;
 pub use monomials::vector;
+pub use rows::pack;
 
 // The value of each equation at a point, or why there is none.
 pub enum Evaluated {

@@ -1,7 +1,7 @@
 -- One trit set: a mask clears its bit of both words and a shifted bit goes in its place; and what follows for legal vectors.
-use mathlib.Core.Path.{_≡_, refl, sym, ap, ap₂, _∙_}
+use mathlib.Core.Path.{_≡_, sym, ap, ap₂, _∙_}
 use mathlib.Core.Logic.{by-cases}
-use Prim.Native.Nat.{ℕ, zero, suc, _+_, _-_, _*_, _/_, _%_, _^_, _≤_, _<_}
+use Prim.Native.Nat.{ℕ, suc, _+_, _-_, _*_, _/_, _%_, _^_, _≤_, _<_}
 use native.Mathlib.Nat.{mul-assoc, add-zero, mod-eq-of-lt}
 use native.Mathlib.Decide.{decLt, ℕ-discrete}
 use native.Mathlib.Omega.{arith}
@@ -10,7 +10,7 @@ use lib.Bits.{bitAnd, bitOr, bitXor, shifted-even, and-mask, and-le-r, and-zero-
 use Rattle.trits.specs.declared.Vector.{Vector}
 use Rattle.trits.specs.Trit.{bit, trit, Legal, ofTrits}
 use Rattle.trits.specs.Words.{Put}
-use Rattle.trits.proofs.Bits.{bits, bit-lt, bit-and, bit-or, bit-xor}
+use Rattle.trits.proofs.Bits.{bit-lt, bit-and, bit-or, bit-xor}
 use Rattle.trits.proofs.LegalLaw.{bit-shr, bit-low, bit-ext, fit-none, legal-more}
 use Rattle.trits.proofs.ExtLaw.{is-of, trit-of, legal-of}
 

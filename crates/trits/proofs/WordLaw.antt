@@ -1,8 +1,7 @@
 -- The operations on legal vectors as arithmetic: their trits, the vectors that they are, and the rules of the sum.
-use mathlib.Core.Path.{_≡_, refl, sym, ap, ap₂, _∙_}
+use mathlib.Core.Path.{_≡_, sym, ap, ap₂, _∙_}
 use mathlib.Core.Logic.{by-cases, _↔_}
-use mathlib.Core.Bool.{true}
-use Prim.Native.Nat.{ℕ, zero, suc, _+_, _*_, _%_, _≤_, _<_}
+use Prim.Native.Nat.{ℕ, _+_, _*_, _%_, _≤_, _<_}
 use native.Mathlib.Nat.{mul-comm}
 use native.Mathlib.Decide.{decLt}
 use native.Mathlib.Omega.{arith}
@@ -17,7 +16,10 @@ use Rattle.trits.proofs.ExtLaw.{trit-ext, trit-past, is-of}
 pub holds-is : {m : ℕ} {f : ℕ → ℕ} {r : Vector} → Holds m f r → r ≡ ofTrits m f
 holds-is {m} {f} {r} h = is-of m f r (h .legal) (h .each)
 
-holds-all : {m : ℕ} {f : ℕ → ℕ} {r : Vector} → Holds m f r → ((e : ℕ) → m ≤ e → f e % 3 ≡ 0) → (e : ℕ) → trit r e ≡ f e % 3
+pub holds-unique : {m : ℕ} {f : ℕ → ℕ} {r s : Vector} → Holds m f r → Holds m f s → r ≡ s
+holds-unique h k = holds-is h ∙ sym (holds-is k)
+
+pub holds-all : {m : ℕ} {f : ℕ → ℕ} {r : Vector} → Holds m f r → ((e : ℕ) → m ≤ e → f e % 3 ≡ 0) → (e : ℕ) → trit r e ≡ f e % 3
 holds-all {m} {f} {r} h z e = by-cases (decLt e m) (h .each e) (λ n. trit-past r (h .legal) e (omega arith) ∙ sym (z e (omega arith)))
 
 module _ {m : ℕ} {a b : Vector} (la : Legal m a) (lb : Legal m b) where

@@ -1,7 +1,6 @@
 -- `residues::remainder` meets its contract: each need is a test at the 256 numbers of an i8.
 use mathlib.Core.Path.{_≡_, refl, sym, subst}
-use mathlib.Core.Bool.{Bool, true, false, _||_}
-use Prim.Native.Nat.{ℕ, _^_}
+use mathlib.Core.Bool.{Bool, true, _||_}
 use lib.Dec.{T, lit<, ltb, eqb}
 use lib.IntN.{ℤ, pos, natAbs, _+ℤ_}
 use lib.Signed.{mag, nonNeg, ltZ, quotZ, remZ}

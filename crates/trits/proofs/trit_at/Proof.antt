@@ -1,5 +1,5 @@
 -- `trits::trit_at` meets its contract.
-use mathlib.Core.Path.{_≡_, sym, ap₂}
+use mathlib.Core.Path.{sym, ap₂}
 use Prim.Native.Nat.{ℕ, _+_, _^_, _/_, _<_, _≤_}
 use native.Mathlib.Omega.{arith}
 use borrow.Author.Needs.{needs}

@@ -1,29 +1,20 @@
 -- `gray::balanced::from_balanced` meets its contract: raised by the upper end the number is a natural one, turned by two.
 use Rattle.gray.proofs.BalancedLaw.{half-is}
 use Rattle.gray.proofs.SignLaw.{less-fits, low-test, high-test, sum-fits, sum-cast, sum-number}
-use mathlib.Core.Path.{_≡_, refl, sym, ap, ap₂, _∙_, subst}
+use mathlib.Core.Path.{_≡_, refl, ap, _∙_}
 use mathlib.Core.Bool.{true, false}
-use Prim.Native.Nat.{ℕ, _+_, _-_, _/_, _^_, _<_, _≤_}
+use Prim.Native.Nat.{ℕ, _+_, _-_, _/_, _^_, _≤_}
 use native.Mathlib.Omega.{arith}
-use lib.IntN.{ℤ, pos, negℤ, natAbs, _+ℤ_, _-ℤ_, +ℤ-idr}
-use lib.Signed.{ltZ}
-use mir.Syntax.{w64}
-use mir.Val.{SFits, toZ, ofZ}
-use mir.ValLaws.{toZ-ofZ}
+use lib.IntN.{ℤ, pos, _+ℤ_, _-ℤ_, +ℤ-idr}
 use Rattle.refusals.specs.declared.Refusal.the-variants.{Size, Range}
 use Rattle.refusals.specs.declared.Verdict.the-variants as verdict
 use Rattle.gray.specs.Balanced.{halfOf, turned, unbalancedOf}
 use Rattle.gray.proofs.TurnLaw.{power-small, power-above}
 use Rattle.gray.proofs.AnswerLaw.{size-low, size-high, ends-low, ends-high, ends-so, point-meets}
-use Rattle.gray.proofs.SignLaw.{Raised, raised}
+use Rattle.gray.proofs.SignLaw.{raised}
 use borrow.Author.Needs.{needs}
 use Rattle.gray.proofs.balanced.from_balanced.Statement.{statement}
 use Rattle.gray.proofs.balanced.from_balanced.Tie as tie
-use Rattle.gray.proofs.balanced.from_balanced.Reads as reads
-use Rattle.gray.proofs.balanced.from_balanced.Lts as lts
-use Rattle.gray.proofs.balanced.minus.Reads as minus-reads
-use Rattle.gray.proofs.balanced.turn.Reads as turn-reads
-use Rattle.gray.proofs.positions.power.Reads as power-reads
 
 -- the upper end, as the code has it
 half : (n w : ℕ) (H : ℤ) → n ≤ 20 → w ≡ 3 ^ n → H ≡ pos ((w - 1) / 2) -ℤ pos 0 → (halfOf n ≤ 4294967296) × (H ≡ pos (halfOf n))

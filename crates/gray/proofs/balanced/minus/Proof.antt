@@ -1,6 +1,5 @@
 -- `gray::balanced::minus` meets its contract: both numbers are far from the ends of 64 bits.
-use mathlib.Core.Path.{_≡_, refl, sym, ap, ap₂, _∙_, subst}
-use Prim.Native.Nat.{ℕ, _^_, _<_, _≤_}
+use mathlib.Core.Path.{_≡_, sym, ap₂, _∙_, subst}
 use native.Mathlib.Omega.{arith}
 use lib.IntN.{ℤ, pos, _-ℤ_}
 use mir.Syntax.{w64}
@@ -10,8 +9,6 @@ use Rattle.gray.proofs.SignLaw.{minus-fits}
 use borrow.Author.Needs.{needs}
 use Rattle.gray.proofs.balanced.minus.Statement.{statement}
 use Rattle.gray.proofs.balanced.minus.Tie as tie
-use Rattle.gray.proofs.balanced.minus.Reads as reads
-use Rattle.gray.proofs.balanced.minus.Lts as lts
 
 -- what the machine reads back from the two locals
 read : (c : tie.Start) → toZ w64 (c .args .a) -ℤ toZ w64 (c .args .b) ≡ pos (c .args .a) -ℤ pos (c .args .b)

@@ -1,80 +1,82 @@
 -- `gray::balanced::to_balanced` meets its contract: the point turned by one, less the upper end.
-use Rattle.gray.proofs.SignLaw.{held-minus}
-use mathlib.Core.Path.{_≡_, refl, sym, ap, ap₂, _∙_}
-use Prim.Native.Nat.{ℕ, _+_, _-_, _/_, _^_, _<_, _≤_}
+use mathlib.Core.Path.{refl, sym, ap₂, _∙_}
+use Prim.Native.Nat.{ℕ, _-_, _/_}
 use native.Mathlib.Omega.{arith}
-use lib.IntN.{ℤ, pos, _-ℤ_}
-use Rattle.refusals.specs.declared.Refusal.the-variants.{Size, Range}
+use lib.IntN.{pos, _-ℤ_}
 use Rattle.refusals.specs.declared.Verdict.the-variants as verdict
-use Rattle.gray.specs.Balanced.{halfOf, turned}
-use Rattle.gray.proofs.TurnLaw.{power-small, turned-small}
-use Rattle.gray.proofs.AnswerLaw.{size-low, size-high, range-high, range-so, balanced-meets}
+use Rattle.gray.proofs.TurnLaw.{power-small, power-above, turned-word}
+use Rattle.gray.proofs.AnswerLaw.{done-so, balanced-meets}
 use Rattle.gray.proofs.BalancedLaw.{half-is, balanced-is}
+use Rattle.gray.proofs.SignLaw.{held-minus}
 use borrow.Author.Needs.{needs}
 use Rattle.gray.proofs.balanced.to_balanced.Statement.{statement}
 use Rattle.gray.proofs.balanced.to_balanced.Tie as tie
-use Rattle.gray.proofs.balanced.to_balanced.Reads as reads
-use Rattle.gray.proofs.balanced.to_balanced.Lts as lts
-use Rattle.gray.proofs.balanced.minus.Reads as minus-reads
-use Rattle.gray.proofs.balanced.turn.Reads as turn-reads
-use Rattle.gray.proofs.positions.power.Reads as power-reads
-
--- src/balanced.rt:43:9
-returns : tie.Need-returns
-returns c = balanced-meets (verdict.Refused Size) _ _ _ (size-low _ _ (c .if1 .taken)) refl
 
 -- src/balanced.rt:46:9
-returns-2 : tie.Need-returns-2
-returns-2 c = balanced-meets (verdict.Refused Size) _ _ _ (size-high _ _ (c .if2 .taken)) refl
+convertible-requires : tie.Need-convertible-requires
+convertible-requires c κs = search needs
 
--- src/balanced.rt:48:9
+-- src/balanced.rt:48:26
+enum-known-verdict : tie.Need-enum-known-verdict
+enum-known-verdict c = search needs
+
+-- src/balanced.rt:50:25
+enum-told : tie.Need-enum-told
+enum-told c = search needs
+
+-- src/balanced.rt:50:25
 power-requires : tie.Need-power-requires
 power-requires c κs = search needs
 
--- src/balanced.rt:50:9
-returns-3 : tie.Need-returns-3
-returns-3 c =
-    let a = c .before .before .before .before .before .args in
-    let e = c .before .before .power .ensures .0 (omega arith) in
-    let r : 3 ^ a .n ≤ a .x .0 = omega arith in
-    balanced-meets (verdict.Refused Range) _ _ _ (range-high (a .n) (a .x .0) (omega arith) (omega arith) r) refl
+-- src/balanced.rt:50:25
+sub-half : tie.Need-sub-half
+sub-half c =
+    let a = c .before .before .before .before .args in
+    let d = done-so (a .n) (a .x .0) (sym (c .before .before .before .convertible .ensures) ∙ c .before .enum-told .given .1) in
+    let e = c .power .ensures .0 (omega arith) in
+    omega (arith, power-above (a .n))
 
--- src/balanced.rt:52:9
+-- src/balanced.rt:51:17
 turn-requires : tie.Need-turn-requires
-turn-requires c κs = search needs
+turn-requires c κs =
+    let a = c .before .before .before .before .args in
+    let d = done-so (a .n) (a .x .0) (sym (c .before .before .before .convertible .ensures) ∙ c .before .enum-told .given .1) in
+    (omega arith, d .1)
 
--- src/balanced.rt:53:33
-sub-minus : tie.Need-sub-minus
-sub-minus c = search needs
-
--- src/balanced.rt:53:9
+-- src/balanced.rt:52:17
 minus-requires : tie.Need-minus-requires
 minus-requires c κs =
-    let a = c .before .before .before .before .before .before .args in
-    let e = c .before .before .before .power .ensures .0 (omega arith) in
-    let h : a .n ≤ 20 = omega arith in
-    (omega (arith, c .turn .ensures, turned-small 1 (a .n) (a .x .0) h), omega (arith, power-small (a .n) h))
+    let a = c .before .before .before .before .before .args in
+    let d = done-so (a .n) (a .x .0) (sym (c .before .before .before .before .convertible .ensures) ∙ c .before .before .enum-told .given .1) in
+    let e = c .before .power .ensures .0 (omega arith) in
+    (turned-word _ _ _ _ (d .1) (c .turn .ensures), omega (arith, power-small (a .n) (d .1)))
 
--- src/balanced.rt:38:1
-returns-4 : tie.Need-returns-4
-returns-4 c =
-    let a = c .before .before .before .before .before .before .before .args in
-    let e = c .before .before .before .before .power .ensures .0 (omega arith) in
-    let h : a .n ≤ 20 = omega arith in
-    let r : a .x .0 < 3 ^ a .n = omega arith in
-    balanced-meets verdict.Done _ _ _ (range-so (a .n) (a .x .0) (omega arith) h r)
-    (held-minus (c .minus .result) (c .before .turn .result) ((c .before .before .before .before .power .result - 1) / 2) (omega (arith, c .before .turn .ensures, turned-small 1 (a .n) (a .x .0) h)) (omega (arith, power-small (a .n) h)) (c .minus .ensures)
+-- src/balanced.rt:42:1
+returns : tie.Need-returns
+returns c = balanced-meets (verdict.Refused _) _ _ _ (sym (c .before .before .before .convertible .ensures) ∙ c .before .verdict .given .1) refl
+
+-- src/balanced.rt:42:1
+returns-2 : tie.Need-returns-2
+returns-2 c =
+    let a = c .before .before .before .before .before .before .args in
+    let v = sym (c .before .before .before .before .before .convertible .ensures) ∙ c .before .before .before .enum-told .given .1 in
+    let d = done-so (a .n) (a .x .0) v in
+    let e = c .before .before .power .ensures .0 (omega arith) in
+    balanced-meets verdict.Done _ _ _ v
+    (held-minus (c .minus .result) (c .before .turn .result) ((c .before .before .power .result - 1) / 2)
+    (turned-word _ _ _ _ (d .1) (c .before .turn .ensures)) (omega (arith, power-small (a .n) (d .1))) (c .minus .ensures)
     ∙ ap₂ (λ (x y : ℕ). pos x -ℤ pos y) (c .before .turn .ensures) (half-is (a .n) _ e) ∙ sym (balanced-is (a .n) (a .x .0)))
 
 pub to-balanced-spec : {M : Type 1} → statement M
 to-balanced-spec =
     tie.close
     (tie.spec
-    returns
-    returns-2
+    convertible-requires
+    enum-known-verdict
+    enum-told
     power-requires
-    returns-3
+    sub-half
     turn-requires
-    sub-minus
     minus-requires
-    returns-4)
+    returns
+    returns-2)

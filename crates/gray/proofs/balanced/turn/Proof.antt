@@ -1,15 +1,12 @@
 -- `gray::balanced::turn` meets its contract: the number so far is that of the digits read so far.
-use mathlib.Core.Path.{_≡_, refl, sym, ap, _∙_}
-use Prim.Native.Nat.{ℕ, _+_, _-_, _*_, _/_, _%_, _^_, _≤_, _<_}
+use mathlib.Core.Path.{_≡_, sym, ap, _∙_}
+use Prim.Native.Nat.{ℕ, _+_, _-_, _/_, _^_, _≤_, _<_}
 use native.Mathlib.Omega.{arith}
 use borrow.Author.Needs.{needs}
 use Rattle.gray.specs.Balanced.{turned}
 use Rattle.gray.proofs.TurnLaw.{power-above, weight-next, part-next, part-last, turned-turn, turned-small, turned-none}
 use Rattle.gray.proofs.balanced.turn.Statement.{statement}
 use Rattle.gray.proofs.balanced.turn.Tie as tie
-use Rattle.gray.proofs.balanced.turn.Reads as reads
-use Rattle.gray.proofs.balanced.turn.Lts as lts
-use Rattle.gray.proofs.positions.power.Reads as power-reads
 
 none : (n : ℕ) → n ≡ n - 0
 none n = omega arith

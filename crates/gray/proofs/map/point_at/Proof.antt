@@ -9,8 +9,6 @@ use Rattle.gray.specs.Numbers.{pointOf}
 use Rattle.gray.proofs.TurnLaw.{power-small, point-turn, point-done, digit-small}
 use Rattle.gray.proofs.map.point_at.Statement.{statement}
 use Rattle.gray.proofs.map.point_at.Tie as tie
-use Rattle.gray.proofs.map.point_at.Reads as reads
-use Rattle.gray.proofs.map.point_at.Lts as lts
 
 whole : (x : ℕ) → 0 + 1 * x ≡ x
 whole x = omega arith

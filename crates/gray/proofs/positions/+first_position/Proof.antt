@@ -1,8 +1,7 @@
 -- `gray::positions::first_position` meets its contract: one more than that of a third, where 3 divides.
-use mathlib.Core.Path.{_≡_, sym, ap, _∙_}
-use Prim.Native.Nat.{_/_, _%_, _^_}
+use mathlib.Core.Path.{sym, ap, _∙_}
+use Prim.Native.Nat.{_/_}
 use native.Mathlib.Omega.{arith}
-use borrow.Author.Needs.{needs}
 use Rattle.gray.specs.Positions.{lowestOf}
 use Rattle.gray.proofs.LowestLaw.{of-zero, of-other}
 use Rattle.gray.proofs.PartLaw.{lowest-none, lowest-word}

@@ -1,14 +1,12 @@
 -- `gray::positions::power` meets its contract: r is 3 to the turns done.
 use mathlib.Core.Path.{_≡_, sym, ap, _∙_}
-use Prim.Native.Nat.{ℕ, _+_, _-_, _*_, _^_, _≤_}
+use Prim.Native.Nat.{ℕ, _-_, _*_, _^_, _≤_}
 use native.Mathlib.Nat.{pow-suc, pow-le-pow-right}
 use native.Mathlib.Numerals.{add-one}
 use native.Mathlib.Omega.{arith}
 use borrow.Author.Needs.{needs}
 use Rattle.gray.proofs.positions.power.Statement.{statement}
 use Rattle.gray.proofs.positions.power.Tie as tie
-use Rattle.gray.proofs.positions.power.Reads as reads
-use Rattle.gray.proofs.positions.power.Lts as lts
 
 abbrev Inv-loop : tie.InvT-loop
 Inv-loop k r₀ i₀ r i = (i ≤ k) × (k ≤ 40) × (r ≡ 3 ^ i)

@@ -1,18 +1,15 @@
 -- `gray::positions::split` meets its contract: each turn takes one 3 out of what is left.
-use mathlib.Core.Path.{_≡_, refl, sym, ap, _∙_}
-use Prim.Native.Nat.{ℕ, zero, suc, _+_, _*_, _/_, _%_, _^_, _≤_, _<_}
+use mathlib.Core.Path.{_≡_, sym, ap, _∙_}
+use Prim.Native.Nat.{ℕ, _+_, _*_, _/_, _%_, _^_, _<_}
 use native.Mathlib.Nat.{pow-suc, one-mul}
 use native.Mathlib.Numerals.{add-one}
 use native.Mathlib.Omega.{arith}
 use borrow.Author.Needs.{needs}
 use Rattle.gray.specs.Positions.{lowestOf}
-use Rattle.gray.specs.Parts.{Splits}
-use Rattle.gray.proofs.LowestLaw.{of-zero, of-other, of-lt}
+use Rattle.gray.proofs.LowestLaw.{of-zero, of-other}
 use Rattle.gray.proofs.PartLaw.{lowest-none, lowest-word}
 use Rattle.gray.proofs.positions.split.Statement.{statement}
 use Rattle.gray.proofs.positions.split.Tie as tie
-use Rattle.gray.proofs.positions.split.Reads as reads
-use Rattle.gray.proofs.positions.split.Lts as lts
 
 regroup : (w x : ℕ) → w * 3 * x ≡ w * (3 * x)
 regroup w x = omega arith

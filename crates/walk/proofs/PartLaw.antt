@@ -1,0 +1,124 @@
+-- A block of 27 places in the code's terms: three slots move inside, and one from 3 on at its first place.
+use mathlib.Core.Path.{_≡_, refl, sym, ap, _∙_}
+use mathlib.Core.List.{List, [], _∷_}
+use Prim.Native.Nat.{ℕ, zero, suc, _+_, _-_, _*_, _/_, _%_, _^_, _≤_, _<_}
+use lib.Pow.{pow-add}
+use native.Mathlib.Omega.{arith}
+use lib.ListN.{length, getD, set, drop}
+use Rattle.trits.specs.declared.Vector.{Vector}
+use Rattle.trits.specs.Trit.{none}
+use Rattle.gray.specs.Positions.{lowestOf, positions, reps}
+use Rattle.gray.proofs.LowestLaw.{of-times}
+use Rattle.gray.proofs.PositionLaw.{positions-next}
+use Rattle.walks.specs.Walk.{iterate, turns, block}
+use Rattle.walks.proofs.BlockLaw.{block-is}
+use Rattle.walk.specs.Step.{State, bump, moveOf, walkOf}
+use Rattle.walk.specs.Parts.{whole, partOf, threeOf, nineOf, legsOf, bigOf, topOf, headed}
+use Rattle.walk.specs.Run.{stateOf}
+use Rattle.walk.specs.declared.Ran.{Ran}
+use Rattle.walk.specs.declared.moves.Moved.{Moved}
+use Rattle.walk.specs.declared.parts.Part.{Part}
+use Rattle.walk.specs.declared.parts.Top.{Top}
+use Rattle.walk.proofs.MoveLaw.{two, lawful}
+
+module _ (n : ℕ) (T : ℕ → ℕ → Vector) where
+  big-is : (b : ℕ) (ps : List ℕ) (s : State) → block 3 (walkOf n T) 3 (b ∷ ps) s ≡ bigOf n (T 0 b) (T 1 b) (T 2 b) (topOf T) s
+  unfolding block turns reps moveOf legsOf nineOf threeOf
+  big-is b ps s = refl
+
+  -- 27 places from one that 27 divides
+  pub big-step : (p b : ℕ) (s : State) → s .place ≡ p → 0 < p → p % 27 ≡ 0 → b ≡ lowestOf 3 p
+      → iterate 3 (walkOf n T) 27 s ≡ bigOf n (T 0 b) (T 1 b) (T 2 b) (topOf T) (moveOf T (positions 3 p) s)
+  big-step p b s sp h m e =
+      let k : 27 * (p / 27) ≡ p = omega arith in
+      let w : positions 3 p ≡ b ∷ positions 3 (p - 3 ^ lowestOf 3 p) = positions-next 3 two p h ∙ ap (λ (n : ℕ). n ∷ positions 3 (p - 3 ^ lowestOf 3 p)) (sym e) in
+      block-is 3 two (walkOf n T) (lawful n T) 3 (p / 27) s (sp ∙ sym k)
+      ∙ ap (λ (x : ℕ). block 3 (walkOf n T) 3 (positions 3 x) (moveOf T (positions 3 x) s)) k
+      ∙ ap (λ (ps : List ℕ). block 3 (walkOf n T) 3 ps (moveOf T (positions 3 p) s)) w
+      ∙ big-is b (positions 3 (p - 3 ^ lowestOf 3 p)) (moveOf T (positions 3 p) s)
+
+-- the first position of a number that 27 divides
+pub low27 : (p : ℕ) → 0 < p → p % 27 ≡ 0 → 3 ≤ lowestOf 3 p
+low27 p h m =
+    let k : 27 * (p / 27) ≡ p = omega arith in
+    let e : lowestOf 3 (27 * (p / 27)) ≡ 3 + lowestOf 3 (p / 27) = of-times 3 two 3 (p / 27) (omega arith) in
+    omega (arith, ap (lowestOf 3) k)
+
+-- past the first three slots
+pub get3 : (a b c : Vector) (rest : List Vector) (i : ℕ) → 3 ≤ i → getD (a ∷ b ∷ c ∷ rest) i none ≡ getD rest (i - 3) none
+get3 a b c rest zero h = absurd (omega arith)
+get3 a b c rest (suc zero) h = absurd (omega arith)
+get3 a b c rest (suc (suc zero)) h = absurd (omega arith)
+get3 a b c rest (suc (suc (suc i))) h = ap (λ (n : ℕ). getD rest n none) (omega arith)
+
+pub set3 : (a b c : Vector) (rest : List Vector) (i : ℕ) (v : Vector) → 3 ≤ i → set (a ∷ b ∷ c ∷ rest) i v ≡ a ∷ b ∷ c ∷ set rest (i - 3) v
+set3 a b c rest zero v h = absurd (omega arith)
+set3 a b c rest (suc zero) v h = absurd (omega arith)
+set3 a b c rest (suc (suc zero)) v h = absurd (omega arith)
+set3 a b c rest (suc (suc (suc i))) v h = ap (λ (n : ℕ). a ∷ b ∷ c ∷ set rest n v) (omega arith)
+
+-- three slots read, and written back
+pub split3 : (l : List Vector) → 3 ≤ length l → l ≡ getD l 0 none ∷ getD l 1 none ∷ getD l 2 none ∷ drop 3 l
+split3 [] h = absurd (omega arith)
+split3 (a ∷ []) h = absurd (omega arith)
+split3 (a ∷ b ∷ []) h = absurd (omega arith)
+split3 (a ∷ b ∷ c ∷ l) h = refl
+
+pub join3 : (l : List Vector) (a b c : Vector) → 3 ≤ length l → set (set (set l 0 a) 1 b) 2 c ≡ a ∷ b ∷ c ∷ drop 3 l
+join3 [] a b c h = absurd (omega arith)
+join3 (x ∷ []) a b c h = absurd (omega arith)
+join3 (x ∷ y ∷ []) a b c h = absurd (omega arith)
+join3 (x ∷ y ∷ z ∷ l) a b c h = refl
+
+-- the first move of a block, in its parts
+abbrev pub with3 : Part → Moved → Part
+with3 x r = record { value = r .value; s0 = x .s0; s1 = x .s1; s2 = x .s2; additions = r .additions; found = x .found; place = x .place }
+
+pub headed3 : (x : Part) (rest : List Vector) (l : List ℕ) (b : ℕ) (r : Moved) → 3 ≤ b
+    → whole (with3 x r) (set rest (b - 3) (r .slot)) l ≡ headed (whole x rest l) b r
+headed3 x rest l b r h =
+    ap (λ (v : List Vector). record { place = x .place; value = r .value; slots = v; additions = r .additions; found = x .found; list = l })
+    (sym (set3 (x .s0) (x .s1) (x .s2) rest b (r .slot) h))
+
+-- 27 places, from what the parts of the code give
+pub block27-is : (n : ℕ) (T : ℕ → ℕ → Vector) (x y : Part) (rest : List Vector) (l l' : List ℕ) (b : ℕ) (r : Moved)
+    → 0 < x .place → x .place % 27 ≡ 0 → b ≡ lowestOf 3 (x .place)
+    → moveOf T (positions 3 (x .place)) (whole x rest l) ≡ headed (whole x rest l) b r
+    → whole y (set rest (b - 3) (r .slot)) l' ≡ bigOf n (T 0 b) (T 1 b) (T 2 b) (topOf T) (whole (with3 x r) (set rest (b - 3) (r .slot)) l)
+    → whole y (set rest (b - 3) (r .slot)) l' ≡ iterate 3 (walkOf n T) 27 (whole x rest l)
+block27-is n T x y rest l l' b r h m e hm hb =
+    let t : 3 ≤ b = omega (arith, low27 (x .place) h m) in
+    hb ∙ ap (bigOf n (T 0 b) (T 1 b) (T 2 b) (topOf T)) (headed3 x rest l b r t ∙ sym hm)
+    ∙ sym (big-step n T (x .place) b (whole x rest l) refl h m e)
+
+-- the first position and what is left, from a 27th
+pub lift27 : (p k r : ℕ) → 0 < p → p % 27 ≡ 0 → k ≡ lowestOf 3 (p / 27) → p / 27 ≡ 3 ^ k * r → (k + 3 ≡ lowestOf 3 p) × (p ≡ 3 ^ (k + 3) * r)
+lift27 p k r h m e f =
+    let w : 27 * (p / 27) ≡ p = omega arith in
+    let l : lowestOf 3 (27 * (p / 27)) ≡ 3 + lowestOf 3 (p / 27) = of-times 3 two 3 (p / 27) (omega arith) in
+    let x : 3 ^ (k + 3) * r ≡ 27 * (3 ^ k * r) = ap (λ (n : ℕ). n * r) (pow-add 3 k 3) ∙ omega arith in
+    (omega (arith, ap (lowestOf 3) w), sym w ∙ ap (λ (n : ℕ). 27 * n) f ∙ sym x)
+
+pub legs-more : (n k : ℕ) (a b c : Vector) (t : Top) (s : State) → 0 < k → legsOf n k a b c t s ≡ legsOf n (k - 1) (t .t02) (t .t12) (t .t22) t (bump 2 c (nineOf n a b t s))
+unfolding legsOf
+legs-more n zero a b c t s h = absurd (omega arith)
+legs-more n (suc k) a b c t s h =
+    let e : k ≡ suc k - 1 = omega arith in
+    ap (λ (j : ℕ). legsOf n j (t .t02) (t .t12) (t .t22) t (bump 2 c (nineOf n a b t s))) e
+
+pub legs-none : (n : ℕ) (a b c : Vector) (t : Top) (s : State) → legsOf n 0 a b c t s ≡ nineOf n a b t s
+unfolding legsOf
+legs-none n a b c t s = refl
+
+-- a walker taken apart, and put together again
+pub apart : (r : Ran) (l : List ℕ) → 3 ≤ length (r .walker .slots) → stateOf r l ≡ whole (partOf r) (drop 3 (r .walker .slots)) l
+apart r l h =
+    ap (λ (v : List Vector). record { place = r .walker .place; value = r .walker .value; slots = v; additions = r .additions; found = r .found; list = l })
+    (split3 (r .walker .slots) h)
+
+pub together : (x : Part) (v : List Vector) (l : List ℕ) → 3 ≤ length v
+    → record { place = x .place; value = x .value; slots = set (set (set v 0 (x .s0)) 1 (x .s1)) 2 (x .s2); additions = x .additions; found = x .found; list = l }
+    ≡ whole x (drop 3 v) l
+together x v l h =
+    ap (λ (z : List Vector). record { place = x .place; value = x .value; slots = z; additions = x .additions; found = x .found; list = l })
+    (join3 v (x .s0) (x .s1) (x .s2) h)

@@ -1,0 +1,4 @@
+pub mod Step
+pub mod Parts
+pub mod Run
+pub mod Meaning

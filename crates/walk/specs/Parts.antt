@@ -1,0 +1,77 @@
+-- The state from the parts that the code holds, and blocks of 27 places in the code's terms.
+use mathlib.Core.Path.{_≡_}
+use mathlib.Core.List.{List, _∷_}
+use lib.ListN.{getD, set}
+use Prim.Native.Nat.{ℕ, zero, suc, _+_, _≤_}
+use Rattle.trits.specs.declared.Vector.{Vector}
+use Rattle.trits.specs.Trit.{none}
+use Rattle.walk.specs.Step.{State, bump, noteOf}
+use Rattle.walk.specs.declared.Ran.{Ran}
+use Rattle.walk.specs.declared.moves.Moved.{Moved}
+use Rattle.walk.specs.declared.parts.Part.{Part}
+use Rattle.walk.specs.declared.parts.Top.{Top}
+
+-- the state of a part: its three slots, then the rest
+abbrev pub whole : Part → List Vector → List ℕ → State
+whole x rest l =
+    record {
+      place = x .place;
+      value = x .value;
+      slots = x .s0 ∷ x .s1 ∷ x .s2 ∷ rest;
+      additions = x .additions;
+      found = x .found;
+      list = l;
+    }
+
+-- the parts of a walker with its counts
+abbrev pub partOf : Ran → Part
+partOf r =
+    record {
+      value = r .walker .value;
+      s0 = getD (r .walker .slots) 0 none;
+      s1 = getD (r .walker .slots) 1 none;
+      s2 = getD (r .walker .slots) 2 none;
+      additions = r .additions;
+      found = r .found;
+      place = r .walker .place;
+    }
+
+-- k places on, with at most a additions
+pub record Went (x r : Part) (k a : ℕ) : Type 0 where
+  pub place : r .place ≡ x .place + k
+  pub found : r .found ≤ x .found + k
+  pub additions : r .additions ≤ x .additions + a
+
+-- three places, where the first has been moved to
+unfoldable pub threeOf : ℕ → Vector → Vector → State → State
+threeOf n th t00 s = noteOf n (bump 0 t00 (noteOf n (bump 0 th (noteOf n s))))
+
+-- nine places, where the first has been moved to
+unfoldable pub nineOf : ℕ → Vector → Vector → Top → State → State
+nineOf n t0h t1h t s =
+    threeOf n (t .t01) (t .t00) (bump 1 (t .t11) (threeOf n (t .t01) (t .t00) (bump 1 t1h (threeOf n t0h (t .t00) s))))
+
+-- nine places, and k times a move of slot 2 and nine more
+unfoldable pub legsOf : ℕ → ℕ → Vector → Vector → Vector → Top → State → State
+legsOf n zero t0h t1h t2h t s = nineOf n t0h t1h t s
+legsOf n (suc k) t0h t1h t2h t s = legsOf n k (t .t02) (t .t12) (t .t22) t (bump 2 t2h (nineOf n t0h t1h t s))
+
+-- 27 places, where the first has been moved to
+abbrev pub bigOf : ℕ → Vector → Vector → Vector → Top → State → State
+bigOf n t0h t1h t2h t s = legsOf n 2 t0h t1h t2h t s
+
+-- the entries that every block uses
+abbrev pub topOf : (ℕ → ℕ → Vector) → Top
+topOf T = record { t00 = T 0 0; t01 = T 0 1; t11 = T 1 1; t02 = T 0 2; t12 = T 1 2; t22 = T 2 2 }
+
+-- a state with what its move gave: slot b, the value and the additions
+abbrev pub headed : State → ℕ → Moved → State
+headed s b h =
+    record {
+      place = s .place;
+      value = h .value;
+      slots = set (s .slots) b (h .slot);
+      additions = h .additions;
+      found = s .found;
+      list = s .list;
+    }
