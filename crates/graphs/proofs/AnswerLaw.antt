@@ -17,7 +17,7 @@ use Rattle.graphs.specs.Equations.{systemOf}
 use Rattle.graphs.specs.Answers.{answerOf, wordsAfter, endsOf, foundOf}
 use Rattle.graphs.specs.Parts.{Edged, Drawn}
 use Rattle.graphs.proofs.ReadLaw.{length-ends, ends-at}
-use Rattle.graphs.proofs.SoundLaw.{lines-drawn}
+use Rattle.graphs.proofs.SoundLaw.{lines-drawn, text-drawn}
 
 -- ---- the outcome, test by test
 module _ (t : List ℕ) (w : ℕ) where
@@ -75,3 +75,14 @@ in-order v x y h =
     let c : 1 ≤ y = h .other-least in
     let e : y ≤ v = h .other-most in
     record { low = omega arith; high = omega arith; apart = omega arith; most = omega arith }
+
+-- ---- what a caller knows of the answer
+graph-drawn : (t : List ℕ) (w n m : ℕ) (o : Outcome) → outcomeOf t w ≡ o → answerOf o ≡ answer.Graph n m → (1 ≤ n) × (n ≤ 20)
+graph-drawn t w n m (graph v es) e q =
+    let p : v ≡ n = cc in
+    let d = text-drawn t w v es e in
+    (rw (← p) (d .least), rw (← p) (d .most))
+graph-drawn t w n m (refused r k) e q = let z : _≡_ {A = ℕ} 0 1 = cc in absurd (omega arith)
+
+pub answer-limits : (t : List ℕ) (w n m : ℕ) → answerOf (outcomeOf t w) ≡ answer.Graph n m → (1 ≤ n) × (n ≤ 20)
+answer-limits t w n m q = graph-drawn t w n m (outcomeOf t w) refl q
