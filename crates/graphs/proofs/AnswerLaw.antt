@@ -1,0 +1,88 @@
+-- The answer and the words after it, for each way that a reading ends.
+use mathlib.Core.Path.{_≡_, refl, sym, ap, ap₂, _∙_}
+use mathlib.Core.List.{List, _++_}
+use Prim.Native.Nat.{ℕ, _+_, _-_, _*_, _≤_, _<_, min, max}
+use native.Mathlib.Omega.{arith}
+use lib.ListN.{length, getD, drop}
+use borrow.Author.Tests.{lt-ltb, le-ltb}
+use Rattle.tables.specs.Monomials.{countOf}
+use Rattle.tables.specs.Words.{wordsOf}
+use Rattle.graphs.specs.declared.GraphFault.{GraphFault}
+use Rattle.graphs.specs.declared.GraphFault.the-variants as why
+use Rattle.graphs.specs.declared.ReadAnswer.the-variants as answer
+use Rattle.graphs.specs.declared.reading.Finding.{Finding}
+use Rattle.graphs.specs.declared.reading.Finding.the-variants.{Fine}
+use Rattle.graphs.specs.Reading.{linesOf, Ends, start, Outcome, graph, refused, readLines, outcomeOf}
+use Rattle.graphs.specs.Equations.{systemOf}
+use Rattle.graphs.specs.Answers.{answerOf, wordsAfter, endsOf, foundOf}
+use Rattle.graphs.specs.Parts.{Edged, Drawn}
+use Rattle.graphs.proofs.ReadLaw.{length-ends, ends-at}
+use Rattle.graphs.proofs.SoundLaw.{lines-drawn, text-drawn}
+
+-- ---- the outcome, test by test
+module _ (t : List ℕ) (w : ℕ) where
+  pub outcome-long : 32768 < length t → outcomeOf t w ≡ refused why.Long 0
+  unfolding outcomeOf
+  outcome-long h = rw (lt-ltb 32768 (length t) h)
+
+  pub outcome-words : length t ≤ 32768 → w < 462 → outcomeOf t w ≡ refused why.Words 0
+  unfolding outcomeOf
+  outcome-words h l = rw (le-ltb 32768 (length t) h, lt-ltb w 462 l)
+
+  pub outcome-lines : length t ≤ 32768 → 462 ≤ w → outcomeOf t w ≡ readLines 1 start (linesOf t)
+  unfolding outcomeOf
+  outcome-lines h l = rw (le-ltb 32768 (length t) h, le-ltb w 462 l)
+
+-- ---- answers
+pub answer-refused : (o : Outcome) (r : GraphFault) (k : ℕ) (old : List ℕ) → o ≡ refused r k → (answer.Refused r k ≡ answerOf o) × (old ≡ wordsAfter o old)
+unfolding wordsAfter
+answer-refused o r k old e = (sym (ap answerOf e), sym (ap (λ (x : Outcome). wordsAfter x old) e))
+
+after-graph : (v : ℕ) (es : List Ends) (old : List ℕ) → wordsAfter (graph v es) old ≡ wordsOf v (length es) (systemOf es) ++ drop (2 * countOf v) old
+unfolding wordsAfter
+after-graph v es old = refl
+
+pub answer-graph : (o : Outcome) (v k used : ℕ) (es : List Ends) (new old : List ℕ) → o ≡ graph v es → length es ≡ k → new ≡ wordsOf v k (systemOf es) → used ≡ 2 * countOf v
+    → (answer.Graph v k ≡ answerOf o) × (new ++ drop used old ≡ wordsAfter o old)
+answer-graph o v k used es new old e l n u = (
+  sym (ap answerOf e ∙ ap (answer.Graph v) l),
+  ap₂ (λ (x : List ℕ) (y : ℕ). x ++ drop y old) (n ∙ ap (λ (j : ℕ). wordsOf v j (systemOf es)) (sym l)) u ∙ sym (ap (λ (x : Outcome). wordsAfter x old) e ∙ after-graph v es old),
+)
+
+-- ---- the graph that was read
+pub found-drawn : (t : List ℕ) (f : Finding) (k v : ℕ) (es : List Ends) → foundOf f k v es ≡ readLines 1 start (linesOf t) → f ≡ Fine → Drawn v es
+found-drawn t f k v es e q = lines-drawn t v es (sym e ∙ ap (λ (g : Finding). foundOf g k v es) q)
+
+module _ (v k : ℕ) (xs ys : List ℕ) (d : Drawn v (endsOf k xs ys)) where
+  pub ends-few : k ≤ 64
+  ends-few = omega (arith, d .few, length-ends k xs ys)
+
+  pub ends-edged : (e : ℕ) → e < k → Edged v (record { one = getD xs e 0; other = getD ys e 0 })
+  ends-edged e h = rw (ends-at k xs ys e h) at (d .each e (omega (arith, length-ends k xs ys)))
+
+-- the ends in order, as unknowns
+pub record Ordered (v x y : ℕ) : Type 0 where
+  pub low : 1 ≤ min x y
+  pub high : 1 ≤ max x y
+  pub apart : min x y - 1 < max x y - 1
+  pub most : max x y - 1 < v
+
+pub in-order : (v x y : ℕ) → Edged v (record { one = x; other = y }) → Ordered v x y
+in-order v x y h =
+    let d : ¬ (x ≡ y) = h .apart in
+    let a : 1 ≤ x = h .one-least in
+    let b : x ≤ v = h .one-most in
+    let c : 1 ≤ y = h .other-least in
+    let e : y ≤ v = h .other-most in
+    record { low = omega arith; high = omega arith; apart = omega arith; most = omega arith }
+
+-- ---- what a caller knows of the answer
+graph-drawn : (t : List ℕ) (w n m : ℕ) (o : Outcome) → outcomeOf t w ≡ o → answerOf o ≡ answer.Graph n m → (1 ≤ n) × (n ≤ 20)
+graph-drawn t w n m (graph v es) e q =
+    let p : v ≡ n = cc in
+    let d = text-drawn t w v es e in
+    (rw (← p) (d .least), rw (← p) (d .most))
+graph-drawn t w n m (refused r k) e q = let z : _≡_ {A = ℕ} 0 1 = cc in absurd (omega arith)
+
+pub answer-limits : (t : List ℕ) (w n m : ℕ) → answerOf (outcomeOf t w) ≡ answer.Graph n m → (1 ≤ n) × (n ≤ 20)
+answer-limits t w n m q = graph-drawn t w n m (outcomeOf t w) refl q

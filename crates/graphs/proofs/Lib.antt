@@ -1,0 +1,8 @@
+pub mod LineLaw
+pub mod ReturnLaw
+pub mod ReadLaw
+pub mod WriteLaw
+pub mod SoundLaw
+pub mod AnswerLaw
+pub mod ColourLaw
+pub mod CaseLaw

@@ -1,0 +1,261 @@
+-- A text is its first line and the text after it; the reader's own structs step as the states do.
+use mathlib.Core.Path.{_≡_, refl, sym, ap, ap₂, _∙_}
+use mathlib.Core.Bool.{Bool, true, false}
+use mathlib.Core.List.{List, [], _∷_, _++_}
+use mathlib.Core.Logic.{by-cases}
+use Prim.Native.Nat.{ℕ, zero, suc, _+_, _-_, _≤_, _<_}
+use native.Mathlib.Decide.{ℕ-discrete}
+use native.Mathlib.Numerals.{add-one}
+use native.Mathlib.Omega.{arith}
+use lib.Dec.{eqb, ltb, leb}
+use lib.ListN.{length, getD, take, drop, set, length-append, List·getD-append}
+use lib.Seq.{drop-cons, drop-drop, getD-set-same, getD-set-other, getD-at}
+use borrow.Author.Tests.{eq-eqb, ne-eqb, lt-ltb, le-ltb, ltb-false, leb-false, eqb-false}
+use Rattle.graphs.specs.declared.GraphFault.{GraphFault}
+use Rattle.graphs.specs.declared.GraphFault.the-variants as why
+use Rattle.graphs.specs.declared.reading.Finding.{Finding}
+use Rattle.graphs.specs.declared.reading.Finding.the-variants.{Fine, Fault}
+use Rattle.graphs.specs.declared.lines.Shape.{Shape}
+use Rattle.graphs.specs.declared.lines.Shape.the-variants.{Comment, Problem, Edge, Unknown}
+use Rattle.graphs.specs.Lines.{firstOf, shapeOf}
+use Rattle.graphs.specs.Reading.{grow, linesOf, Ends, State, start, declared, Turn, on, stop, fault, problemFault, edgeFault, carry, takeLine, graph, refused, endOf, readLines}
+use Rattle.graphs.specs.Equations.{noEnds}
+use Rattle.graphs.specs.Answers.{endsOf, stateIn, foundOf, isFault}
+use Rattle.graphs.proofs.LineLaw.{first-stop, first-more}
+
+-- ---- lines
+lines-feed : (x : ℕ) (t : List ℕ) → x ≡ 10 → linesOf (x ∷ t) ≡ [] ∷ linesOf t
+unfolding linesOf
+lines-feed x t e = rw (eq-eqb x 10 e, linesOf)
+
+lines-byte : (x : ℕ) (t : List ℕ) → (x ≡ 10 → ⊥) → linesOf (x ∷ t) ≡ grow x (linesOf t)
+unfolding linesOf
+lines-byte x t d = rw (ne-eqb x 10 d, linesOf)
+
+-- the first line and the text after it, for a text whose first line has f bytes
+abbrev Split : List ℕ → ℕ → Type 0
+Split t f = linesOf t ≡ take f t ∷ linesOf (drop (f + 1) t)
+
+split-more : (x : ℕ) (t : List ℕ) → (x ≡ 10 → ⊥) → Split t (firstOf 10 t) → Split (x ∷ t) (suc (firstOf 10 t))
+split-more x t d e =
+    let p : suc (firstOf 10 t) + 1 ≡ suc (firstOf 10 t + 1) = omega arith in
+    rw p (lines-byte x t d ∙ ap (grow x) e)
+
+split-last : (x : ℕ) → (x ≡ 10 → ⊥) → Split (x ∷ []) (suc (firstOf 10 []))
+unfolding firstOf linesOf
+split-last x d = lines-byte x [] d
+
+pub lines-split : (x : ℕ) (t : List ℕ) → Split (x ∷ t) (firstOf 10 (x ∷ t))
+lines-split x [] =
+    by-cases (ℕ-discrete x 10) (λ e. rw (first-stop 10 x [] e) (lines-feed x [] e)) (λ d. rw (first-more 10 x [] d) (split-last x d))
+lines-split x (y ∷ t) =
+    by-cases (ℕ-discrete x 10) (λ e. rw (first-stop 10 x (y ∷ t) e) (lines-feed x (y ∷ t) e))
+    (λ d. rw (first-more 10 x (y ∷ t) d) (split-more x (y ∷ t) d (lines-split y t)))
+
+-- the same for what is left of a text from a place on
+pub lines-at : (s : List ℕ) (i f : ℕ) → i < length s → f ≡ firstOf 10 (drop i s) → linesOf (drop i s) ≡ take (i + f - i) (drop i s) ∷ linesOf (drop (i + f + 1) s)
+lines-at s i f h e =
+    let p : i + f - i ≡ f = omega arith in
+    let q : i + f + 1 ≡ i + (f + 1) = omega arith in
+    let d : drop i s ≡ getD s i 0 ∷ drop (suc i) s = drop-cons s i 0 h in
+    let w : linesOf (drop i s) ≡ take (firstOf 10 (drop i s)) (drop i s) ∷ linesOf (drop (firstOf 10 (drop i s) + 1) (drop i s)) =
+    rw d (lines-split (getD s i 0) (drop (suc i) s)) in
+    rw (p, q, ← drop-drop (f + 1) i s, e) w
+
+pub lines-none : linesOf [] ≡ []
+unfolding linesOf
+lines-none = refl
+
+-- ---- reading on
+pub read-none : (k : ℕ) (s : State) → readLines k s [] ≡ endOf s
+unfolding readLines
+read-none k s = refl
+
+pub read-go : (k : ℕ) (s s′ : State) (l : List ℕ) (ls : List (List ℕ)) → takeLine s (shapeOf l) ≡ on s′ → readLines k s (l ∷ ls) ≡ readLines (k + 1) s′ ls
+unfolding readLines
+read-go k s s′ l ls e = rw (add-one k, e, readLines)
+
+pub read-stop : (k : ℕ) (s : State) (r : GraphFault) (l : List ℕ) (ls : List (List ℕ)) → takeLine s (shapeOf l) ≡ stop r → readLines k s (l ∷ ls) ≡ refused r k
+unfolding readLines
+read-stop k s r l ls e = rw (e, readLines)
+
+-- ---- the edges of two arrays
+pub length-ends : (k : ℕ) (xs ys : List ℕ) → length (endsOf k xs ys) ≡ k
+unfolding endsOf
+length-ends zero xs ys = refl
+length-ends (suc k) xs ys = length-append (endsOf k xs ys) _ ∙ omega (arith, length-ends k xs ys)
+
+ends-kept : (k j : ℕ) (xs ys : List ℕ) (a b : ℕ) → k ≤ j → endsOf k (set xs j a) (set ys j b) ≡ endsOf k xs ys
+unfolding endsOf
+ends-kept zero j xs ys a b h = refl
+ends-kept (suc k) j xs ys a b h =
+    let d : k ≡ j → ⊥ = λ e. omega arith in
+    ap₂ (λ (x y : List Ends). x ++ y) (ends-kept k j xs ys a b (omega arith))
+    (ap₂ (λ (x y : ℕ). record { one = x; other = y } ∷ []) (getD-set-other xs j k a 0 d) (getD-set-other ys j k b 0 d))
+
+pub ends-joined : (k : ℕ) (xs ys : List ℕ) (a b : ℕ) → k < length xs → k < length ys → endsOf (k + 1) (set xs k a) (set ys k b) ≡ endsOf k xs ys ++ (record { one = a; other = b } ∷ [])
+unfolding endsOf
+ends-joined k xs ys a b h l =
+    ap (λ (n : ℕ). endsOf n (set xs k a) (set ys k b)) (add-one k)
+    ∙ ap₂ (λ (x y : List Ends). x ++ y) (ends-kept k k xs ys a b (omega arith))
+    (ap₂ (λ (x y : ℕ). record { one = x; other = y } ∷ []) (getD-set-same xs k a 0 h) (getD-set-same ys k b 0 l))
+
+-- ---- one line
+problem-again : (v e : ℕ) (es : List Ends) (v′ e′ : ℕ) → takeLine (declared v e es) (Problem v′ e′) ≡ stop why.Order
+unfolding takeLine
+problem-again v e es v′ e′ = refl
+
+problem-first : (v e : ℕ) → takeLine start (Problem v e) ≡ carry (problemFault v e) (declared v e [])
+unfolding takeLine
+problem-first v e = refl
+
+edge-early : (a b : ℕ) → takeLine start (Edge a b) ≡ stop why.Order
+unfolding takeLine
+edge-early a b = refl
+
+edge-next : (v e : ℕ) (es : List Ends) (a b : ℕ) → takeLine (declared v e es) (Edge a b) ≡ carry (edgeFault v e (length es) a b) (declared v e (es ++ (record { one = a; other = b } ∷ [])))
+unfolding takeLine
+edge-next v e es a b = refl
+
+pub take-comment : (s : State) → takeLine s Comment ≡ on s
+unfolding takeLine
+take-comment s = refl
+
+pub take-unknown : (s : State) → takeLine s Unknown ≡ stop why.Shape
+unfolding takeLine
+take-unknown s = refl
+
+module _ {q : Bool} (v e : ℕ) (es : List Ends) where
+  pub second-problem : q ≡ true → (v′ e′ : ℕ) → stop why.Order ≡ takeLine (stateIn q v e es) (Problem v′ e′)
+  second-problem h v′ e′ = rw h (sym (problem-again v e es v′ e′))
+
+  pub first-problem : q ≡ false → {f : Finding} (v′ e′ : ℕ) → problemFault v′ e′ ≡ f → carry f (declared v′ e′ []) ≡ takeLine (stateIn q v e es) (Problem v′ e′)
+  first-problem h v′ e′ w = rw h (sym (problem-first v′ e′ ∙ ap (λ (g : Finding). carry g (declared v′ e′ [])) w))
+
+  pub early-edge : q ≡ false → (a b : ℕ) → stop why.Order ≡ takeLine (stateIn q v e es) (Edge a b)
+  early-edge h a b = rw h (sym (edge-early a b))
+
+  pub later-edge : q ≡ true → {f : Finding} (a b : ℕ) → edgeFault v e (length es) a b ≡ f
+      → carry f (declared v e (es ++ (record { one = a; other = b } ∷ []))) ≡ takeLine (stateIn q v e es) (Edge a b)
+  later-edge h a b w =
+      rw h (sym (edge-next v e es a b ∙ ap (λ (g : Finding). carry g (declared v e (es ++ (record { one = a; other = b } ∷ [])))) w))
+
+  -- the end
+  pub end-early : q ≡ false → refused why.Order 0 ≡ endOf (stateIn q v e es)
+  unfolding endOf
+  end-early h = rw h
+
+  pub end-few : q ≡ true → length es < e → refused why.Count 0 ≡ endOf (stateIn q v e es)
+  unfolding endOf
+  end-few h l = rw (h, lt-ltb (length es) e l)
+
+  pub end-many : q ≡ true → e < length es → refused why.Count 0 ≡ endOf (stateIn q v e es)
+  unfolding endOf
+  end-many h l = let k : e ≤ length es = omega arith in rw (h, le-ltb (length es) e k, lt-ltb e (length es) l)
+
+  pub end-same : q ≡ true → length es ≡ e → graph v es ≡ endOf (stateIn q v e es)
+  unfolding endOf
+  end-same h l =
+      let k : e ≤ length es = omega arith in
+      let j : length es ≤ e = omega arith in
+      rw (h, le-ltb (length es) e k, le-ltb e (length es) j)
+
+-- ---- what is not refused
+never : (r : GraphFault) → Fault r ≡ Fine → ⊥
+never r e = let z : _≡_ {A = ℕ} 0 1 = cc in omega arith
+
+pub fine-test : (b : Bool) (r : GraphFault) (f : Finding) → fault b r f ≡ Fine → b ≡ false
+fine-test true r f e = absurd (never r e)
+fine-test false r f e = refl
+
+pub fine-next : (b : Bool) (r : GraphFault) (f : Finding) → fault b r f ≡ Fine → f ≡ Fine
+fine-next true r f e = absurd (never r e)
+fine-next false r f e = e
+
+pub record Declares (v e : ℕ) : Type 0 where
+  pub v-least : 1 ≤ v
+  pub v-most : v ≤ 20
+  pub e-least : 1 ≤ e
+  pub e-most : e ≤ 64
+
+pub problem-fine : (v e : ℕ) → problemFault v e ≡ Fine → Declares v e
+problem-fine v e h =
+    let h2 = fine-next (ltb v 1) _ _ h in
+    let h3 = fine-next (ltb 20 v) _ _ h2 in
+    let h4 = fine-next (ltb e 1) _ _ h3 in
+    record {
+      v-least = ltb-false _ _ (fine-test (ltb v 1) _ _ h);
+      v-most = ltb-false _ _ (fine-test (ltb 20 v) _ _ h2);
+      e-least = ltb-false _ _ (fine-test (ltb e 1) _ _ h3);
+      e-most = ltb-false _ _ (fine-test (ltb 64 e) _ _ h4);
+    }
+
+pub record Fitting (v e k a b : ℕ) : Type 0 where
+  pub room : k < e
+  pub one-least : 1 ≤ a
+  pub one-most : a ≤ v
+  pub other-least : 1 ≤ b
+  pub other-most : b ≤ v
+  pub apart : a ≡ b → ⊥
+
+pub edge-fine : (v e k a b : ℕ) → edgeFault v e k a b ≡ Fine → Fitting v e k a b
+edge-fine v e k a b h =
+    let h2 = fine-next (leb e k) _ _ h in
+    let h3 = fine-next (ltb a 1) _ _ h2 in
+    let h4 = fine-next (ltb v a) _ _ h3 in
+    let h5 = fine-next (ltb b 1) _ _ h4 in
+    let h6 = fine-next (ltb v b) _ _ h5 in
+    record {
+      room = leb-false _ _ (fine-test (leb e k) _ _ h);
+      one-least = ltb-false _ _ (fine-test (ltb a 1) _ _ h2);
+      one-most = ltb-false _ _ (fine-test (ltb v a) _ _ h3);
+      other-least = ltb-false _ _ (fine-test (ltb b 1) _ _ h4);
+      other-most = ltb-false _ _ (fine-test (ltb v b) _ _ h5);
+      apart = eqb-false _ _ (fine-test (eqb a b) _ _ h6);
+    }
+
+-- a finding that is no fault, and one that is
+pub fine-is : (f : Finding) → isFault f ≡ false → f ≡ Fine
+fine-is Fine e = refl
+fine-is (Fault r) e = let z : _≡_ {A = ℕ} 0 1 = cc in absurd (omega arith)
+
+pub fault-is : (f : Finding) → isFault f ≡ true → (s : State) (k : ℕ) (v : ℕ) (es : List Ends) (t : Turn) → carry f s ≡ t
+    → (u : State) (l : List ℕ) (ls : List (List ℕ)) → t ≡ takeLine u (shapeOf l) → foundOf f k v es ≡ readLines k u (l ∷ ls)
+fault-is Fine e s k v es t p u l ls q = let z : _≡_ {A = ℕ} 0 1 = cc in absurd (omega arith)
+fault-is (Fault r) e s k v es t p u l ls q = sym (read-stop k u r l ls (sym (p ∙ q)))
+
+-- ---- the states of the reader's own graphs
+pub state-start : {q : Bool} (v e : ℕ) (es : List Ends) → q ≡ false → stateIn q v e es ≡ start
+state-start v e es h = rw h
+
+pub state-is : {q : Bool} {v v′ e e′ : ℕ} {es es′ : List Ends} → q ≡ true → v ≡ v′ → e ≡ e′ → es ≡ es′ → stateIn q v e es ≡ declared v′ e′ es′
+state-is h p r s = rw (h, p, r, s)
+
+pub ends-none : (k : ℕ) (xs ys : List ℕ) → k ≡ 0 → endsOf k xs ys ≡ []
+unfolding endsOf
+ends-none k xs ys h = rw h
+
+pub ends-next : (k a b : ℕ) (xs ys : List ℕ) {k′ : ℕ} {xs′ ys′ : List ℕ} → k′ ≡ k + 1 → xs′ ≡ set xs k a → ys′ ≡ set ys k b → k < length xs → k < length ys
+    → endsOf k′ xs′ ys′ ≡ endsOf k xs ys ++ (record { one = a; other = b } ∷ [])
+ends-next k a b xs ys h p q l m = rw (h, p, q) (ends-joined k xs ys a b l m)
+
+-- a line that is taken
+pub read-on : (f : Finding) (s u : State) (k : ℕ) (l : List ℕ) (ls : List (List ℕ)) → isFault f ≡ false → carry f s ≡ takeLine u (shapeOf l)
+    → readLines (k + 1) s ls ≡ readLines k u (l ∷ ls)
+read-on f s u k l ls e p = sym (read-go k u s l ls (sym p ∙ ap (λ (g : Finding). carry g s) (fine-is f e)))
+
+-- a line that is refused
+pub read-refused : (f : Finding) (s u : State) (k v : ℕ) (es : List Ends) (l : List ℕ) (ls : List (List ℕ)) → isFault f ≡ true → carry f s ≡ takeLine u (shapeOf l)
+    → foundOf f k v es ≡ readLines k u (l ∷ ls)
+read-refused f s u k v es l ls e p = fault-is f e s k v es (takeLine u (shapeOf l)) p u l ls refl
+
+-- edge e of the two arrays
+pub ends-at : (k : ℕ) (xs ys : List ℕ) (e : ℕ) → e < k → getD (endsOf k xs ys) e noEnds ≡ record { one = getD xs e 0; other = getD ys e 0 }
+unfolding endsOf
+ends-at zero xs ys e h = absurd (omega arith)
+ends-at (suc k) xs ys e h =
+    by-cases (ℕ-discrete e k)
+    (λ q. rw q (getD-at (endsOf k xs ys) (record { one = getD xs k 0; other = getD ys k 0 }) [] noEnds k (length-ends k xs ys)))
+    (λ d.
+    let b : ¬ (e ≡ k) = d in
+    List·getD-append (endsOf k xs ys) _ noEnds e (omega (arith, length-ends k xs ys)) ∙ ends-at k xs ys e (omega arith))

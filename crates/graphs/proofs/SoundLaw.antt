@@ -1,0 +1,123 @@
+-- What is read lies within the limits: each line that is taken keeps the state so.
+use mathlib.Core.Path.{_≡_, refl, sym, _∙_}
+use mathlib.Core.Bool.{Bool, true, false}
+use mathlib.Core.List.{List, [], _∷_, _++_}
+use mathlib.Core.Logic.{by-cases}
+use Prim.Native.Nat.{ℕ, _+_, _≤_, _<_}
+use native.Mathlib.Decide.{ℕ-discrete}
+use native.Mathlib.Omega.{arith}
+use lib.Dec.{ltb}
+use lib.ListN.{length, getD, length-append, List·getD-append}
+use lib.Seq.{getD-at}
+use Rattle.graphs.specs.declared.GraphFault.{GraphFault}
+use Rattle.graphs.specs.declared.GraphFault.the-variants as why
+use Rattle.graphs.specs.declared.reading.Finding.{Finding}
+use Rattle.graphs.specs.declared.reading.Finding.the-variants.{Fine, Fault}
+use Rattle.graphs.specs.declared.lines.Shape.{Shape}
+use Rattle.graphs.specs.declared.lines.Shape.the-variants.{Comment, Problem, Edge, Unknown}
+use Rattle.graphs.specs.Lines.{shapeOf}
+use Rattle.graphs.specs.Reading.{linesOf, Ends, State, start, declared, Turn, on, stop, problemFault, edgeFault, carry, takeLine, Outcome, graph, refused, refuse, endOf, readLines, outcomeOf}
+use Rattle.graphs.specs.Equations.{noEnds}
+use Rattle.graphs.specs.Parts.{Edged, Drawn}
+use Rattle.graphs.proofs.ReadLaw.{Declares, problem-fine, Fitting, edge-fine, read-none, read-go, read-stop}
+
+-- a state within the limits
+record Good (v e : ℕ) (es : List Ends) : Type 0 where
+  limits : Declares v e
+  few : length es ≤ e
+  each : (i : ℕ) → i < length es → Edged v (getD es i noEnds)
+
+abbrev Sound : State → Type 0
+Sound start = _≡_ {A = ℕ} 0 0
+Sound (declared v e es) = Good v e es
+
+stop-on : (r : GraphFault) (s : State) → stop r ≡ on s → ⊥
+stop-on r s e = let z : _≡_ {A = ℕ} 0 1 = cc in omega arith
+
+on-is : (s u : State) → on s ≡ on u → s ≡ u
+on-is s u e = cc
+
+carry-fine : (f : Finding) (s u : State) → carry f s ≡ on u → f ≡ Fine
+carry-fine Fine s u e = refl
+carry-fine (Fault r) s u e = absurd (stop-on r u e)
+
+carry-on : (f : Finding) (s u : State) → carry f s ≡ on u → s ≡ u
+carry-on Fine s u e = on-is s u e
+carry-on (Fault r) s u e = absurd (stop-on r u e)
+
+sound-problem : (v e : ℕ) → problemFault v e ≡ Fine → Sound (declared v e [])
+sound-problem v e h = record { limits = problem-fine v e h; few = omega arith; each = λ i l. absurd (omega arith) }
+
+sound-edge : (v e : ℕ) (es : List Ends) (a b : ℕ) → Sound (declared v e es) → edgeFault v e (length es) a b ≡ Fine → Sound (declared v e (es ++ (record { one = a; other = b } ∷ [])))
+sound-edge v e es a b g h =
+    let f = edge-fine v e (length es) a b h in
+    record { limits = g .limits; few = omega (arith, f .room, length-append es (record { one = a; other = b } ∷ [])); each = at f }
+  where
+    new : Fitting v e (length es) a b → Edged v (record { one = a; other = b })
+    new f = record { one-least = f .one-least; one-most = f .one-most; other-least = f .other-least; other-most = f .other-most; apart = f .apart }
+
+    at : Fitting v e (length es) a b → (i : ℕ) → i < length (es ++ (record { one = a; other = b } ∷ [])) → Edged v (getD (es ++ (record { one = a; other = b } ∷ [])) i noEnds)
+    at f i l =
+        by-cases (ℕ-discrete i (length es))
+        (λ q. rw (q, getD-at es (record { one = a; other = b }) [] noEnds (length es) refl) (new f))
+        (λ d.
+        let n : ¬ (i ≡ length es) = d in
+        let m : i < length es = omega (arith, length-append es (record { one = a; other = b } ∷ [])) in
+        rw (List·getD-append es (record { one = a; other = b } ∷ []) noEnds i m) (g .each i m))
+
+sound-line : (s u : State) (sh : Shape) → Sound s → takeLine s sh ≡ on u → Sound u
+unfolding takeLine
+sound-line s u Unknown g e = absurd (stop-on why.Shape u e)
+sound-line s u Comment g e = let q = on-is s u e in rw (← q) g
+sound-line start u (Problem v e) g q =
+    let r = carry-on (problemFault v e) (declared v e []) u q in
+    rw (← r) (sound-problem v e (carry-fine (problemFault v e) (declared v e []) u q))
+sound-line (declared v e es) u (Problem v′ e′) g q = absurd (stop-on why.Order u q)
+sound-line start u (Edge a b) g q = absurd (stop-on why.Order u q)
+sound-line (declared v e es) u (Edge a b) g q =
+    let n = declared v e (es ++ (record { one = a; other = b } ∷ [])) in
+    let r = carry-on (edgeFault v e (length es) a b) n u q in
+    rw (← r) (sound-edge v e es a b g (carry-fine (edgeFault v e (length es) a b) n u q))
+
+-- ---- the end
+refused-graph : (r : GraphFault) (k v : ℕ) (es : List Ends) → refused r k ≡ graph v es → ⊥
+refused-graph r k v es e = let z : _≡_ {A = ℕ} 0 1 = cc in omega arith
+
+refuse-graph : (b : Bool) (r : GraphFault) (k : ℕ) (o : Outcome) (v : ℕ) (es : List Ends) → refuse b r k o ≡ graph v es → o ≡ graph v es
+refuse-graph true r k o v es e = absurd (refused-graph r k v es e)
+refuse-graph false r k o v es e = e
+
+drawn-good : (v e : ℕ) (es : List Ends) → Good v e es → Drawn v es
+drawn-good v e es g =
+    record { least = g .limits .v-least; most = g .limits .v-most; few = omega (arith, g .few, g .limits .e-most); each = g .each }
+
+graph-same : (v v′ : ℕ) (es es′ : List Ends) → graph v es ≡ graph v′ es′ → Drawn v es → Drawn v′ es′
+graph-same v v′ es es′ e d = let p : v ≡ v′ = cc in let q : es ≡ es′ = cc in rw (← p, ← q) d
+
+sound-end : (s : State) → Sound s → (v : ℕ) (es : List Ends) → endOf s ≡ graph v es → Drawn v es
+unfolding endOf
+sound-end start g v es e = absurd (refused-graph why.Order 0 v es e)
+sound-end (declared n m xs) g v es e =
+    let e1 = refuse-graph (ltb (length xs) m) why.Count 0 _ v es e in
+    let e2 = refuse-graph (ltb m (length xs)) why.Count 0 _ v es e1 in
+    graph-same n v xs es e2 (drawn-good n m xs g)
+
+-- one line, where what follows is sound
+sound-turn : (l : List ℕ) (ls : List (List ℕ)) (k : ℕ) (s : State) → Sound s → (v : ℕ) (es : List Ends)
+    → ((u : State) → Sound u → readLines (k + 1) u ls ≡ graph v es → Drawn v es) → (t : Turn) → takeLine s (shapeOf l) ≡ t → readLines k s (l ∷ ls) ≡ graph v es → Drawn v es
+sound-turn l ls k s g v es next (on u) q e = next u (sound-line s u (shapeOf l) g q) (sym (read-go k s u l ls q) ∙ e)
+sound-turn l ls k s g v es next (stop r) q e = absurd (refused-graph r k v es (sym (read-stop k s r l ls q) ∙ e))
+
+sound-lines : (ls : List (List ℕ)) (k : ℕ) (s : State) → Sound s → (v : ℕ) (es : List Ends) → readLines k s ls ≡ graph v es → Drawn v es
+sound-lines [] k s g v es e = sound-end s g v es (sym (read-none k s) ∙ e)
+sound-lines (l ∷ ls) k s g v es e = sound-turn l ls k s g v es (λ u h q. sound-lines ls (k + 1) u h v es q) (takeLine s (shapeOf l)) refl e
+
+-- what the lines of a text read to lies within the limits
+pub lines-drawn : (t : List ℕ) (v : ℕ) (es : List Ends) → readLines 1 start (linesOf t) ≡ graph v es → Drawn v es
+lines-drawn t v es e = sound-lines (linesOf t) 1 start refl v es e
+
+pub text-drawn : (t : List ℕ) (w v : ℕ) (es : List Ends) → outcomeOf t w ≡ graph v es → Drawn v es
+unfolding outcomeOf
+text-drawn t w v es e =
+    lines-drawn t v es
+    (refuse-graph (ltb w 462) why.Words 0 _ v es (refuse-graph (ltb 32768 (length t)) why.Long 0 _ v es e))

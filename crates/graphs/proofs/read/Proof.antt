@@ -1,0 +1,92 @@
+-- `graphs::read` meets its contract.
+use mathlib.Core.Path.{sym, ap, _∙_}
+use native.Mathlib.Omega.{arith}
+use lib.ListN.{length}
+use lib.Seq.{length-take-le}
+use Rattle.graphs.specs.declared.GraphFault.the-variants as why
+use Rattle.graphs.specs.declared.reading.Finding.{Finding}
+use Rattle.graphs.specs.Reading.{outcomeOf}
+use Rattle.graphs.specs.Answers.{edgesOf, foundOf}
+use Rattle.graphs.proofs.ReadLaw.{length-ends}
+use Rattle.graphs.proofs.AnswerLaw.{outcome-long, outcome-words, outcome-lines, answer-refused, answer-graph, found-drawn}
+use borrow.Author.Needs.{needs}
+use Rattle.graphs.proofs.read.Statement.{statement}
+use Rattle.graphs.proofs.read.Tie as tie
+
+returns : tie.Need-returns
+returns c =
+    let a = c .before .before .before .args in
+    let t = a .text .now in
+    let w = a .words .now in
+    answer-refused (outcomeOf t (length w)) why.Long 0 w (outcome-long t (length w) (c .if1 .taken))
+
+returns-2 : tie.Need-returns-2
+returns-2 c =
+    let a = c .before .before .before .before .args in
+    let t = a .text .now in
+    let w = a .words .now in
+    answer-refused (outcomeOf t (length w)) why.Words 0 w (outcome-words t (length w) (c .before .if1 .left) (c .if2 .taken))
+
+read-lines-requires : tie.Need-read-lines-requires
+read-lines-requires c κs = search needs
+
+enum-known-finding : tie.Need-enum-known-finding
+enum-known-finding c = search needs
+
+enum-told : tie.Need-enum-told
+enum-told c = search needs
+
+size-requires : tie.Need-size-requires
+size-requires c κs =
+    let s = c .before .before .before .read-lines .result in
+    let d = found-drawn (c .before .before .before .before .before .before .before .before .args .text .now) (s .finding) (s .line) (s .graph .vertices) (edgesOf (s .graph)) (c .before .before .before .read-lines .ensures) (c .enum-told .given .1) in
+    (d .least, d .most)
+
+slice-relend-prefix-write : tie.Need-slice-relend-prefix-write
+slice-relend-prefix-write c = search needs
+
+slice-aggregate-write : tie.Need-slice-aggregate-write
+slice-aggregate-write c = sym (length-take-le (c .before .size .result) (c .before .before .before .before .before .before .before .before .before .before .args .words .now) (omega (arith, c .before .size .ensures .1, c .before .before .before .before .before .before .if2 .left)))
+
+write-requires : tie.Need-write-requires
+write-requires c κs =
+    let s = c .before .before .before .before .before .read-lines .result in
+    let d = found-drawn (c .before .before .before .before .before .before .before .before .before .before .args .text .now) (s .finding) (s .line) (s .graph .vertices) (edgesOf (s .graph)) (c .before .before .before .before .before .read-lines .ensures) (c .before .before .enum-told .given .1) in
+    (length-take-le (c .before .size .result) (c .before .before .before .before .before .before .before .before .before .before .args .words .now) (omega (arith, c .before .size .ensures .1, c .before .before .before .before .before .before .if2 .left)) ∙ c .before .size .ensures .0, d)
+
+returns-3 : tie.Need-returns-3
+returns-3 c =
+    let a = c .before .before .before .before .before .before .before .before .before .args in
+    let t = a .text .now in
+    let w = a .words .now in
+    let s = c .before .before .before .before .read-lines .result in
+    answer-refused (outcomeOf t (length w)) _ (s .line) w (outcome-lines t (length w) (c .before .before .before .before .before .before .if1 .left) (c .before .before .before .before .before .if2 .left) ∙ sym (c .before .before .before .before .read-lines .ensures) ∙ ap (λ (f : Finding). foundOf f (s .line) (s .graph .vertices) (edgesOf (s .graph))) (c .before .finding .given .1))
+
+same-length : tie.Need-same-length
+same-length c = search needs
+
+returns-4 : tie.Need-returns-4
+returns-4 c =
+    let a = c .before .before .before .before .before .before .before .before .before .before .before .before .before .args in
+    let t = a .text .now in
+    let w = a .words .now in
+    let s = c .before .before .before .before .before .before .before .before .read-lines .result in
+    let g = s .graph in
+    answer-graph (outcomeOf t (length w)) (g .vertices) (g .count) (c .before .before .before .before .size .result) (edgesOf g) (c .before .before .write .last .0) w (outcome-lines t (length w) (c .before .before .before .before .before .before .before .before .before .before .if1 .left) (c .before .before .before .before .before .before .before .before .before .if2 .left) ∙ sym (c .before .before .before .before .before .before .before .before .read-lines .ensures) ∙ ap (λ (f : Finding). foundOf f (s .line) (g .vertices) (edgesOf g)) (c .before .before .before .before .before .enum-told .given .1)) (length-ends (g .count) (g .one) (g .other)) (c .before .before .write .ensures) (c .before .before .before .before .size .ensures .0)
+
+pub read-spec : {M : Type 1} → statement M
+read-spec =
+    tie.close
+    (tie.spec
+    returns
+    returns-2
+    read-lines-requires
+    enum-known-finding
+    enum-told
+    size-requires
+    slice-relend-prefix-write
+    slice-aggregate-write
+    write-requires
+    returns-3
+    same-length
+    returns-4)

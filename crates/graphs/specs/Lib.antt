@@ -1,0 +1,6 @@
+pub mod Lines
+pub mod Reading
+pub mod Equations
+pub mod Answers
+pub mod Parts
+pub mod Cases
