@@ -13,7 +13,7 @@ use Rattle.gray.proofs.PositionLaw.{positions-next}
 use Rattle.walks.specs.Walk.{iterate, turns, block}
 use Rattle.walks.proofs.BlockLaw.{block-is}
 use Rattle.walk.specs.Step.{State, bump, moveOf, walkOf}
-use Rattle.walk.specs.Parts.{whole, partOf, threeOf, nineOf, legsOf, bigOf, topOf, headed}
+use Rattle.walk.specs.Parts.{whole, partOf, threeOf, rowsOf, nineOf, legsOf, bigOf, topOf, headed}
 use Rattle.walk.specs.Run.{stateOf}
 use Rattle.walk.specs.declared.Ran.{Ran}
 use Rattle.walk.specs.declared.moves.Moved.{Moved}
@@ -23,7 +23,7 @@ use Rattle.walk.proofs.MoveLaw.{two, lawful}
 
 module _ (n : ℕ) (T : ℕ → ℕ → Vector) where
   big-is : (b : ℕ) (ps : List ℕ) (s : State) → block 3 (walkOf n T) 3 (b ∷ ps) s ≡ bigOf n (T 0 b) (T 1 b) (T 2 b) (topOf T) s
-  unfolding block turns reps moveOf legsOf nineOf threeOf
+  unfolding block turns reps moveOf legsOf nineOf rowsOf threeOf
   big-is b ps s = refl
 
   -- 27 places from one that 27 divides
@@ -98,6 +98,19 @@ lift27 p k r h m e f =
     let l : lowestOf 3 (27 * (p / 27)) ≡ 3 + lowestOf 3 (p / 27) = of-times 3 two 3 (p / 27) (omega arith) in
     let x : 3 ^ (k + 3) * r ≡ 27 * (3 ^ k * r) = ap (λ (n : ℕ). n * r) (pow-add 3 k 3) ∙ omega arith in
     (omega (arith, ap (lowestOf 3) w), sym w ∙ ap (λ (n : ℕ). 27 * n) f ∙ sym x)
+
+-- the rows of three that are left of nine places, and the legs of nine that are left of 27
+module _ (n : ℕ) (t00 t01 t11 : Vector) where
+  pub rows-more : (k : ℕ) (a b : Vector) (s : State) → 0 < k → rowsOf n k a b t00 t01 t11 s ≡ rowsOf n (k - 1) t01 t11 t00 t01 t11 (bump 1 b (threeOf n a t00 s))
+  unfolding rowsOf
+  rows-more zero a b s h = absurd (omega arith)
+  rows-more (suc k) a b s h =
+      let e : k ≡ suc k - 1 = omega arith in
+      ap (λ (j : ℕ). rowsOf n j t01 t11 t00 t01 t11 (bump 1 b (threeOf n a t00 s))) e
+
+  pub rows-none : (a b : Vector) (s : State) → rowsOf n 0 a b t00 t01 t11 s ≡ threeOf n a t00 s
+  unfolding rowsOf
+  rows-none a b s = refl
 
 pub legs-more : (n k : ℕ) (a b c : Vector) (t : Top) (s : State) → 0 < k → legsOf n k a b c t s ≡ legsOf n (k - 1) (t .t02) (t .t12) (t .t22) t (bump 2 c (nineOf n a b t s))
 unfolding legsOf

@@ -46,10 +46,14 @@ pub record Went (x r : Part) (k a : ℕ) : Type 0 where
 unfoldable pub threeOf : ℕ → Vector → Vector → State → State
 threeOf n th t00 s = noteOf n (bump 0 t00 (noteOf n (bump 0 th (noteOf n s))))
 
+-- three places, and k times a move of slot 1 and three more
+unfoldable pub rowsOf : ℕ → ℕ → Vector → Vector → Vector → Vector → Vector → State → State
+rowsOf n zero t0h t1h t00 t01 t11 s = threeOf n t0h t00 s
+rowsOf n (suc k) t0h t1h t00 t01 t11 s = rowsOf n k t01 t11 t00 t01 t11 (bump 1 t1h (threeOf n t0h t00 s))
+
 -- nine places, where the first has been moved to
 unfoldable pub nineOf : ℕ → Vector → Vector → Top → State → State
-nineOf n t0h t1h t s =
-    threeOf n (t .t01) (t .t00) (bump 1 (t .t11) (threeOf n (t .t01) (t .t00) (bump 1 t1h (threeOf n t0h (t .t00) s))))
+nineOf n t0h t1h t s = rowsOf n 2 t0h t1h (t .t00) (t .t01) (t .t11) s
 
 -- nine places, and k times a move of slot 2 and nine more
 unfoldable pub legsOf : ℕ → ℕ → Vector → Vector → Vector → Top → State → State

@@ -120,16 +120,6 @@ fn three(n: usize, x: Part, th: Vector, t00: Vector, list: &mut [u64]) -> Part
     step0(n, b, t00, list)
 }
 
-// Three places, where slot 1 moves to the first.
-fn step1(n: usize, x: Part, t: Vector, th: Vector, t00: Vector, list: &mut [u64]) -> Part
-    requires { ⌜ (n ≤ 20) × (x .found + 3 ≤ length (now list)) × (x .place + 3 < 2 ^ 64) × (x .additions + 6 < 2 ^ 64) ⌝ }
-    ensures state { λ r. ⌜ ((rest : List Vector) → whole r rest (now (list .exit)) ≡ threeOf n th t00 (bump 1 t (whole x rest (now (list .entry))))) ⌝ }
-    ensures went { λ r. ⌜ Went x r 3 6 ⌝ }
-{
-    let m = move1(x, t);
-    three(n, m, th, t00, list)
-}
-
 // Nine places, where the first has been moved to.
 fn nine(n: usize, x: Part, t0h: Vector, t1h: Vector, top: Top, list: &mut [u64]) -> Part
     requires { ⌜ (n ≤ 20) × (x .found + 9 ≤ length (now list)) × (x .place + 9 < 2 ^ 64) × (x .additions + 16 < 2 ^ 64) ⌝ }
@@ -139,9 +129,20 @@ fn nine(n: usize, x: Part, t0h: Vector, t1h: Vector, top: Top, list: &mut [u64])
     let t00 = top.t00;
     let t01 = top.t01;
     let t11 = top.t11;
-    let a = three(n, x, t0h, t00, list);
-    let b = step1(n, a, t1h, t01, t00, list);
-    step1(n, b, t11, t01, t00, list)
+    let mut y = x;
+    let mut a0 = t0h;
+    let mut a1 = t1h;
+    let mut left: u32 = 2;
+    loop {
+        y = three(n, y, a0, t00, list);
+        if left == 0 {
+            return y;
+        }
+        y = move1(y, a1);
+        a0 = t01;
+        a1 = t11;
+        left -= 1;
+    }
 }
 
 // 27 places, where the first has been moved to.

@@ -1,50 +1,98 @@
--- `walk::parts::nine` meets its contract: three threes with two moves of slot 1 between.
-use mathlib.Core.Path.{ap, _∙_}
+-- `walk::parts::nine` meets its contract: what the rows left make of the parts stays the same.
+use mathlib.Core.Path.{_≡_, refl, sym, ap, _∙_}
+use mathlib.Core.List.{List}
+use Prim.Native.Nat.{ℕ, _-_, _*_, _≤_, _<_}
 use native.Mathlib.Omega.{arith}
-use Rattle.walk.specs.Step.{State, bump}
-use Rattle.walk.specs.Parts.{threeOf, nineOf}
-use borrow.Author.Needs.{needs}
+use lib.ListN.{length}
+use Rattle.trits.specs.declared.Vector.{Vector}
+use Rattle.walk.specs.Step.{bump}
+use Rattle.walk.specs.Parts.{whole, Went, rowsOf, nineOf}
+use Rattle.walk.proofs.PartLaw.{rows-more, rows-none}
 use Rattle.walk.proofs.parts.nine.Statement.{statement}
 use Rattle.walk.proofs.parts.nine.Tie as tie
 use Rattle.walk.proofs.parts.nine.Reads as reads
 use Rattle.walk.proofs.parts.nine.Lts as lts
-use Rattle.walk.proofs.parts.step1.Reads as step1-reads
+use Rattle.walk.proofs.parts.move1.Reads as move1-reads
 use Rattle.walk.proofs.parts.three.Reads as three-reads
 
--- src/parts.rt:142:9
-three-requires : tie.Need-three-requires
-three-requires c κs = search needs
+abbrev Inv-loop : tie.InvT-loop
+Inv-loop n list₀ t00 t01 t11 y₀ a0₀ a1₀ left₀ list y a0 a1 left =
+    (left ≤ 2) × (length list ≡ length list₀) × Went y₀ y (3 * (2 - left)) (6 * (2 - left))
+    × ((rest : List Vector) → rowsOf n left a0 a1 t00 t01 t11 (whole y rest list) ≡ rowsOf n 2 a0₀ a1₀ t00 t01 t11 (whole y₀ rest list₀))
 
--- src/parts.rt:143:9
-step1-requires : tie.Need-step1-requires
-step1-requires c κs = search needs
+abbrev μ-loop : tie.MeasureT-loop
+μ-loop n list₀ t00 t01 t11 y₀ a0₀ a1₀ left₀ list y a0 a1 left = left
 
--- src/parts.rt:144:5
-step1-requires-2 : tie.Need-step1-requires-2
-step1-requires-2 c κs =
-    let q = c .before .before .before .step1 in
-    let t = c .before .before .before .before .before .before .before .three in
-    let s = c .before .before .before .before .before .before .before .before .before .before .before .before .before in
-    (s .pre .0, omega (arith, q .ensures .1, q .kept, t .ensures .1, t .kept, s .pre), omega (arith, q .ensures .1, t .ensures .1, s .pre), omega (arith, q .ensures .1, t .ensures .1, s .pre))
+loop-holds : tie.Need-loop-holds Inv-loop μ-loop
+loop-holds c = (omega arith, refl, record { place = omega arith; found = omega arith; additions = omega arith }, (λ rest. refl))
 
--- src/parts.rt:134:1
-same-length : tie.Need-same-length
-same-length c = search needs
+three-requires : tie.Need-three-requires Inv-loop μ-loop
+three-requires c κs = omega (arith, c .before .loop .inv .0, c .before .loop .inv .1, c .before .loop .inv .2, c .before .before .before .before .before .before .pre)
 
--- src/parts.rt:134:1
-returns : tie.Need-returns
+same-length : tie.Need-same-length Inv-loop μ-loop
+same-length c = omega (arith, c .before .before .before .three .kept, c .before .before .before .before .before .loop .inv .1)
+
+returns : tie.Need-returns Inv-loop μ-loop
 unfolding nineOf
 returns c =
-    let p = c .before .before .step12 .ensures in
-    let q = c .before .before .before .before .before .before .step1 .ensures in
-    let n = c .before .before .before .before .before .before .before .before .before .before .three .ensures in
-    let a = c .before .before .before .before .before .before .before .before .before .before .before .before .before .before .before .before .args in
-    let t = a .top in (
+    let g = c .before .before .before .three in
+    let l = c .before .before .before .before .before .loop in
+    let s = c .before .before .before .before .before .before .before .before .before .before in
+    let a = s .args in
+    let t = a .top in
+    let w = l .inv .2 in
+    let e = g .ensures .1 in (
       (λ rest.
-          p .0 rest ∙ ap (λ (s : State). threeOf (a .n) (t .t01) (t .t00) (bump 1 (t .t11) s))
-          (q .0 rest ∙ ap (λ (s : State). threeOf (a .n) (t .t01) (t .t00) (bump 1 (a .t1h) s)) (n .0 rest))),
-      record { place = omega (arith, p .1, q .1, n .1); found = omega (arith, p .1, q .1, n .1); additions = omega (arith, p .1, q .1, n .1) },
+          g .ensures .0 rest ∙ sym (rows-none (a .n) (t .t00) (t .t01) (t .t11) (l .a0) (l .a1) (whole (l .y) rest (l .list)))
+          ∙ ap (λ (k : ℕ). rowsOf (a .n) k (l .a0) (l .a1) (t .t00) (t .t01) (t .t11) (whole (l .y) rest (l .list))) (sym (c .if1 .taken)) ∙ l .inv .3 rest),
+      record { place = omega (arith, c .if1); found = omega (arith, c .if1); additions = omega (arith, c .if1) },
+    )
+
+move1-requires : tie.Need-move1-requires Inv-loop μ-loop
+move1-requires c κs =
+    let g = c .before .before .before .three in
+    let l = c .before .before .before .before .before .loop in
+    let s = c .before .before .before .before .before .before .before .before .before .before in
+    omega (arith, g .ensures .1, l .inv .0, l .inv .2, s .pre)
+
+sub-left : tie.Need-sub-left Inv-loop μ-loop
+sub-left c = omega (arith, c .before .if1)
+
+loop-less : tie.Need-loop-less Inv-loop μ-loop
+loop-less c = omega (arith, c .before .if1)
+
+loop-again : tie.Need-loop-again Inv-loop μ-loop
+loop-again c =
+    let g = c .before .before .before .before .three in
+    let l = c .before .before .before .before .before .before .loop in
+    let s = c .before .before .before .before .before .before .before .before .before .before .before in
+    let a = s .args in
+    let t = a .top in
+    let m = c .move1 .ensures in
+    let w = l .inv .2 in
+    let e = g .ensures .1 in
+    let v = m .1 in
+    let h : 0 < l .left = omega (arith, c .before .if1) in
+    let i = l .inv .0 in (
+      omega arith,
+      omega (arith, g .kept, l .inv .1),
+      record { place = omega arith; found = omega arith; additions = omega arith },
+      (λ rest.
+          ap (rowsOf (a .n) (l .left - 1) (t .t01) (t .t11) (t .t00) (t .t01) (t .t11)) (m .0 rest _ ∙ ap (bump 1 (l .a1)) (g .ensures .0 rest))
+          ∙ sym (rows-more (a .n) (t .t00) (t .t01) (t .t11) (l .left) (l .a0) (l .a1) (whole (l .y) rest (l .list)) h) ∙ l .inv .3 rest),
     )
 
 pub nine-spec : {M : Type 1} → statement M
-nine-spec = tie.close (tie.spec three-requires step1-requires step1-requires-2 same-length returns)
+nine-spec =
+    tie.close
+    (tie.spec
+    Inv-loop
+    μ-loop
+    loop-holds
+    three-requires
+    same-length
+    returns
+    move1-requires
+    sub-left
+    loop-less
+    loop-again)
