@@ -22,7 +22,7 @@ use Rattle.polynomials.proofs.FormLaw.{eval-value}
 use Rattle.walks.specs.Walk.{stepOf, runOf}
 use Rattle.walks.specs.Calls.{Trail, zerosIn, costIn, roomAfter, pointsIn, reportOf, listAfter, stopAt}
 use Rattle.walks.proofs.RunLaw.{run-none, run-halt, run-go}
-use Rattle.walk.specs.Step.{State, push, lift, bump, moveOf, noteOf, walkOf, foundOf, listOf}
+use Rattle.walk.specs.Step.{State, push, lift, bump, moveOf, noteBy, noteOf, walkOf, foundOf, listOf}
 use Rattle.walk.specs.Run.{haltOf}
 use Rattle.walk.specs.Meaning.{Stands, Tabled, zeros, trailOf, filled, Called, Answers}
 use Rattle.walk.proofs.SearchLaw.{step-near}
@@ -71,7 +71,7 @@ module _ (n : ℕ) (T : ℕ → ℕ → Vector) where
     pub list : r .list ≡ listOf z (pointOf 3 n p) (s .found) (s .list)
 
   pub step-is : (p : ℕ) (z : Bool) (s : State) → s .place ≡ p → isZero ((stepOf 3 (walkOf n T) s) .value) ≡ z → Stepped p z s (stepOf 3 (walkOf n T) s)
-  unfolding stepOf noteOf
+  unfolding stepOf noteBy
   step-is p z s h e =
       let r = moveOf T (positions 3 (s .place)) s in
       let u = move-same (positions 3 (s .place)) s in
@@ -173,7 +173,7 @@ module _ (F : ℕ → Poly) (n m e : ℕ) (T : ℕ → ℕ → Vector) (table : 
   search-more b p s r l f h t c =
       let u = stepOf 3 (walkOf n T) s in
       let a = step-is n T p (Q .zeroAt p) s (t .place) (zero-is p s (omega arith) t) in
-      let w = step-near n T s in
+      let w = step-near (pointOf 3 n) T s in
       let j = room (Q .zeroAt p) (s .found) (u .found) (length (s .list)) (length (u .list)) f (a .found) (w .list) in
       let k = pointsIn Q b (length (u .list) - u .found) (suc p) in
       let i : pointsIn Q (suc b) (length (s .list) - s .found) p ≡ suc k =
@@ -196,7 +196,7 @@ module _ (F : ℕ → Poly) (n m e : ℕ) (T : ℕ → ℕ → Vector) (table : 
       more false a ih =
           let o = goes p (length (s .list) - s .found) a in
           let x : p < e = omega (arith, o) in
-          let w = step-near n T s in
+          let w = step-near (pointOf 3 n) T s in
           rw (run-go 3 (walkOf n T) (haltOf e) b s (halts p s (h .place) f ∙ a))
           (search-more b p s _ x (omega (arith, o)) a h (ih x (step-stands F n m T table p s (omega arith) h) (omega (arith, w .found, w .list, o))))
 

@@ -1,4 +1,5 @@
 pub mod MoveLaw
+pub mod EntryLaw
 pub mod PartLaw
 pub mod SearchLaw
 pub mod WalkedLaw

@@ -16,7 +16,7 @@ use Rattle.trits.specs.Words.{addOf}
 use Rattle.trits.proofs.SumLaw.{meets}
 use Rattle.trits.proofs.ExtLaw.{is-of, of-ext}
 use Rattle.gray.specs.Positions.{lowestOf, positions, latest}
-use Rattle.gray.specs.Numbers.{pointDigit}
+use Rattle.gray.specs.Numbers.{pointDigit, pointOf}
 use Rattle.gray.proofs.LowestLaw.{of-times, of-lt}
 use Rattle.gray.proofs.PositionLaw.{positions-none, positions-one, positions-two}
 use Rattle.gray.proofs.LatestLaw.{moves, moves-rest}
@@ -24,7 +24,7 @@ use Rattle.polynomials.specs.Poly.{Poly, valueOf, changeOf, eval, diff, tableOf
 use Rattle.polynomials.proofs.FormLaw.{eval-value, diff-change}
 use Rattle.polynomials.proofs.SlotLaw.{slotAt, slot-one, slot-two, slot-other, value-step}
 use Rattle.walks.specs.Walk.{stepOf}
-use Rattle.walk.specs.Step.{State, push, lift, bump, moveOf, noteOf, walkOf}
+use Rattle.walk.specs.Step.{State, push, lift, bump, moveOf, noteBy, noteOf, walkOf}
 use Rattle.walk.specs.Meaning.{Good, Sees, Tabled, Stands}
 use Rattle.walk.proofs.MoveLaw.{two}
 use Rattle.walk.proofs.SearchLaw.{step-near}
@@ -92,7 +92,7 @@ module _ (m n : ℕ) (T : ℕ → ℕ → Vector) (table : (b c : ℕ) → b ≤
       (λ q ps e z. let i = pair n q (rw e at l) z in push-good _ _ (lift-good _ _ s (table _ _ (i .order) (i .second)) g))
 
   pub step-good : (s : State) → s .place < 3 ^ n → Good m s → Good m (stepOf 3 (walkOf n T) s)
-  unfolding stepOf noteOf
+  unfolding stepOf noteBy
   step-good s l g = let h = move-good (s .place) s l g in record { value = h .value; slots = h .slots }
 
 -- ---- slots from n on stay
@@ -101,7 +101,7 @@ unfolding bump push lift
 same-slots n b T s l i h = getD-set-other (s .slots) b i _ none (λ e. omega arith)
 
 pub step-rest : (n : ℕ) (T : ℕ → ℕ → Vector) (s : State) → s .place < 3 ^ n → (i : ℕ) → n ≤ i → getD ((stepOf 3 (walkOf n T) s) .slots) i none ≡ getD (s .slots) i none
-unfolding stepOf noteOf moveOf push
+unfolding stepOf noteBy moveOf push
 step-rest n T s l i h =
     by-positions n T (λ u. getD (u .slots) i none ≡ getD (s .slots) i none) (s .place) s l (λ e. refl) (λ q e z. refl)
     (λ q ps e z. same-slots n _ _ s (pair n q (rw e at l) z .first) i h)
@@ -143,7 +143,7 @@ module _ (m n e : ℕ) (f : Poly) (T : ℕ → ℕ → Vector) (table : (b c : �
       }
 
   at-one : (p : ℕ) (s : State) → Good m s → suc p < 3 ^ n → suc p - 3 ^ lowestOf 3 (suc p) ≡ 0 → At p s → At (suc p) (noteOf n (moveOf T (lowestOf 3 (suc p) ∷ []) s))
-  unfolding noteOf moveOf push
+  unfolding noteBy moveOf push
   at-one p s g l z a =
       let b = lowestOf 3 (suc p) in
       let h : lowestOf 3 (suc p) < n = of-lt 3 two n (suc p) (omega arith) l in
@@ -159,7 +159,7 @@ module _ (m n e : ℕ) (f : Poly) (T : ℕ → ℕ → Vector) (table : (b c : �
 
   at-two : (p : ℕ) (ps : List ℕ) (s : State) → Good m s → suc p < 3 ^ n → 0 < suc p - 3 ^ lowestOf 3 (suc p) → At p s
       → At (suc p) (noteOf n (moveOf T (lowestOf 3 (suc p) ∷ lowestOf 3 (suc p - 3 ^ lowestOf 3 (suc p)) ∷ ps) s))
-  unfolding noteOf moveOf bump push lift
+  unfolding noteBy moveOf bump push lift
   at-two p ps s g l z a =
       let b = lowestOf 3 (suc p) in
       let c = lowestOf 3 (suc p - 3 ^ lowestOf 3 (suc p)) in
@@ -180,7 +180,7 @@ module _ (m n e : ℕ) (f : Poly) (T : ℕ → ℕ → Vector) (table : (b c : �
       }
 
   sees-none : (s : State) → Sees f n e 0 s → Sees f n e 1 (noteOf n (moveOf T [] s))
-  unfolding noteOf moveOf
+  unfolding noteBy moveOf
   sees-none s v = record { place = add-one (s .place) ∙ ap suc (v .place); room = v .room; value = v .value; slots = v .slots }
 
   -- each place keeps the meaning
@@ -199,7 +199,7 @@ module _ (F : ℕ → Poly) (n m : ℕ) (T : ℕ → ℕ → Vector) (table : Ta
       record {
         good = step-good m n T (table .legal) s (rw (h .place) l) (h .good);
         sees = λ e i. step-sees m n e (F e) T (table .legal) i (λ b c. table .entry e b c i) p s (h .good) l (h .sees e i);
-        place = omega (arith, step-near n T s .place, h .place);
+        place = omega (arith, step-near (pointOf 3 n) T s .place, h .place);
         rest = λ i j. step-rest n T s (rw (h .place) l) i j ∙ h .rest i j;
       }
 

@@ -15,23 +15,23 @@ use Rattle.gray.specs.Numbers.{pointOf}
 use Rattle.walks.specs.Walk.{Lawful, stepOf}
 use Rattle.gray.proofs.LowestLaw.{of-lt, of-second}
 use Rattle.gray.proofs.PositionLaw.{positions-none, positions-one, positions-two}
-use Rattle.walk.specs.Step.{State, push, lift, bump, moveOf, noteOf, walkOf, foundOf, listOf}
+use Rattle.walk.specs.Step.{State, push, lift, bump, moveOf, noteBy, walkBy, walkOf, foundOf, listOf}
 use Rattle.walk.specs.Parts.{headed}
 use Rattle.walk.specs.declared.moves.Moved.{Moved}
 
 pub two : 1 < 3
 two = omega arith
 
-module _ (n : ℕ) (T : ℕ → ℕ → Vector) where
-  pub lawful : Lawful State (walkOf n T)
-  unfolding moveOf noteOf push bump lift
-  lawful = record { moved = stays; noted = λ s. add-one (s .place) }
-    where
-      stays : (ps : List ℕ) (s : State) → (moveOf T ps s) .place ≡ s .place
-      stays [] s = refl
-      stays (b ∷ []) s = refl
-      stays (b ∷ c ∷ ps) s = refl
+pub lawful : (f : ℕ → ℕ) (T : ℕ → ℕ → Vector) → Lawful State (walkBy f T)
+unfolding moveOf noteBy push bump lift
+lawful f T = record { moved = stays; noted = λ s. add-one (s .place) }
+  where
+    stays : (ps : List ℕ) (s : State) → (moveOf T ps s) .place ≡ s .place
+    stays [] s = refl
+    stays (b ∷ []) s = refl
+    stays (b ∷ c ∷ ps) s = refl
 
+module _ (n : ℕ) (T : ℕ → ℕ → Vector) where
   -- place 0 moves nothing
   pub head-none : (p b : ℕ) (s : State) (r : Moved) → p ≡ 0
       → r .slot ≡ getD (s .slots) b none → r .value ≡ s .value → r .additions ≡ s .additions
@@ -43,7 +43,7 @@ module _ (n : ℕ) (T : ℕ → ℕ → Vector) where
   pub step-note : (s u : State) (k : ℕ) (l : List ℕ) → moveOf T (positions 3 (s .place)) s ≡ u
       → k ≡ foundOf (isZero (u .value)) (u .found) → l ≡ listOf (isZero (u .value)) (pointOf 3 n (u .place)) (u .found) (u .list)
       → record { place = u .place + 1; value = u .value; slots = u .slots; additions = u .additions; found = k; list = l } ≡ stepOf 3 (walkOf n T) s
-  unfolding stepOf noteOf
+  unfolding stepOf noteBy
   step-note s u k l e hk hl = rw (e, hk, hl)
 
   -- a power of three

@@ -12,29 +12,31 @@ use Rattle.gray.proofs.LowestLaw.{of-times}
 use Rattle.gray.proofs.PositionLaw.{positions-next}
 use Rattle.walks.specs.Walk.{iterate, turns, block}
 use Rattle.walks.proofs.BlockLaw.{block-is}
-use Rattle.walk.specs.Step.{State, bump, moveOf, walkOf}
-use Rattle.walk.specs.Parts.{whole, partOf, threeOf, rowsOf, nineOf, legsOf, bigOf, topOf, headed}
+use Rattle.walk.specs.Step.{State, bump, moveOf, walkBy, walkOf}
+use Rattle.walk.specs.Parts.{whole, partOf, threeOf, rowsOf, nineOf, legsOf, bigOf, topOf, headed, turnedIn}
 use Rattle.walk.specs.Run.{stateOf}
 use Rattle.walk.specs.declared.Ran.{Ran}
 use Rattle.walk.specs.declared.moves.Moved.{Moved}
 use Rattle.walk.specs.declared.parts.Part.{Part}
 use Rattle.walk.specs.declared.parts.Top.{Top}
+use Rattle.gray.specs.Numbers.{pointOf}
 use Rattle.walk.proofs.MoveLaw.{two, lawful}
+use Rattle.walk.proofs.EntryLaw.{converted, entries-turned}
 
-module _ (n : ℕ) (T : ℕ → ℕ → Vector) where
-  big-is : (b : ℕ) (ps : List ℕ) (s : State) → block 3 (walkOf n T) 3 (b ∷ ps) s ≡ bigOf n (T 0 b) (T 1 b) (T 2 b) (topOf T) s
+module _ (T : ℕ → ℕ → Vector) where
+  big-is : (b : ℕ) (ps : List ℕ) (s : State) → block 3 (walkBy (λ p. p) T) 3 (b ∷ ps) s ≡ bigOf (T 0 b) (T 1 b) (T 2 b) (topOf T) s
   unfolding block turns reps moveOf legsOf nineOf rowsOf threeOf
   big-is b ps s = refl
 
-  -- 27 places from one that 27 divides
+  -- 27 places from one that 27 divides, each zero listed as its place
   pub big-step : (p b : ℕ) (s : State) → s .place ≡ p → 0 < p → p % 27 ≡ 0 → b ≡ lowestOf 3 p
-      → iterate 3 (walkOf n T) 27 s ≡ bigOf n (T 0 b) (T 1 b) (T 2 b) (topOf T) (moveOf T (positions 3 p) s)
+      → iterate 3 (walkBy (λ p. p) T) 27 s ≡ bigOf (T 0 b) (T 1 b) (T 2 b) (topOf T) (moveOf T (positions 3 p) s)
   big-step p b s sp h m e =
       let k : 27 * (p / 27) ≡ p = omega arith in
       let w : positions 3 p ≡ b ∷ positions 3 (p - 3 ^ lowestOf 3 p) = positions-next 3 two p h ∙ ap (λ (n : ℕ). n ∷ positions 3 (p - 3 ^ lowestOf 3 p)) (sym e) in
-      block-is 3 two (walkOf n T) (lawful n T) 3 (p / 27) s (sp ∙ sym k)
-      ∙ ap (λ (x : ℕ). block 3 (walkOf n T) 3 (positions 3 x) (moveOf T (positions 3 x) s)) k
-      ∙ ap (λ (ps : List ℕ). block 3 (walkOf n T) 3 ps (moveOf T (positions 3 p) s)) w
+      block-is 3 two (walkBy (λ p. p) T) (lawful (λ p. p) T) 3 (p / 27) s (sp ∙ sym k)
+      ∙ ap (λ (x : ℕ). block 3 (walkBy (λ p. p) T) 3 (positions 3 x) (moveOf T (positions 3 x) s)) k
+      ∙ ap (λ (ps : List ℕ). block 3 (walkBy (λ p. p) T) 3 ps (moveOf T (positions 3 p) s)) w
       ∙ big-is b (positions 3 (p - 3 ^ lowestOf 3 p)) (moveOf T (positions 3 p) s)
 
 -- the first position of a number that 27 divides
@@ -80,16 +82,21 @@ headed3 x rest l b r h =
     ap (λ (v : List Vector). record { place = x .place; value = r .value; slots = v; additions = r .additions; found = x .found; list = l })
     (sym (set3 (x .s0) (x .s1) (x .s2) rest b (r .slot) h))
 
--- 27 places, from what the parts of the code give
-pub block27-is : (n : ℕ) (T : ℕ → ℕ → Vector) (x y : Part) (rest : List Vector) (l l' : List ℕ) (b : ℕ) (r : Moved)
-    → 0 < x .place → x .place % 27 ≡ 0 → b ≡ lowestOf 3 (x .place)
+-- 27 places, from what the parts of the code give, with the places of the zeros found turned into their points at last
+pub block27-is : (n : ℕ) (T : ℕ → ℕ → Vector) (x y : Part) (rest : List Vector) (l l' l'' : List ℕ) (b : ℕ) (r : Moved)
+    → 0 < x .place → x .place % 27 ≡ 0 → b ≡ lowestOf 3 (x .place) → x .found + 27 ≤ length l
     → moveOf T (positions 3 (x .place)) (whole x rest l) ≡ headed (whole x rest l) b r
-    → whole y (set rest (b - 3) (r .slot)) l' ≡ bigOf n (T 0 b) (T 1 b) (T 2 b) (topOf T) (whole (with3 x r) (set rest (b - 3) (r .slot)) l)
-    → whole y (set rest (b - 3) (r .slot)) l' ≡ iterate 3 (walkOf n T) 27 (whole x rest l)
-block27-is n T x y rest l l' b r h m e hm hb =
+    → whole y (set rest (b - 3) (r .slot)) l' ≡ bigOf (T 0 b) (T 1 b) (T 2 b) (topOf T) (whole (with3 x r) (set rest (b - 3) (r .slot)) l)
+    → l'' ≡ turnedIn (pointOf 3 n) (x .found) (y .found - x .found) l'
+    → whole y (set rest (b - 3) (r .slot)) l'' ≡ iterate 3 (walkOf n T) 27 (whole x rest l)
+block27-is n T x y rest l l' l'' b r h m e room hm hb hl =
     let t : 3 ≤ b = omega (arith, low27 (x .place) h m) in
-    hb ∙ ap (bigOf n (T 0 b) (T 1 b) (T 2 b) (topOf T)) (headed3 x rest l b r t ∙ sym hm)
-    ∙ sym (big-step n T (x .place) b (whole x rest l) refl h m e)
+    let s = whole x rest l in
+    let u : whole y (set rest (b - 3) (r .slot)) l' ≡ iterate 3 (walkBy (λ p. p) T) 27 s =
+    hb ∙ ap (bigOf (T 0 b) (T 1 b) (T 2 b) (topOf T)) (headed3 x rest l b r t ∙ sym hm) ∙ sym (big-step T (x .place) b s refl h m e) in
+    ap (λ (z : List ℕ). whole y (set rest (b - 3) (r .slot)) z) hl
+    ∙ ap (converted (pointOf 3 n) (x .found)) u
+    ∙ entries-turned (pointOf 3 n) T 27 s room
 
 -- the first position and what is left, from a 27th
 pub lift27 : (p k r : ℕ) → 0 < p → p % 27 ≡ 0 → k ≡ lowestOf 3 (p / 27) → p / 27 ≡ 3 ^ k * r → (k + 3 ≡ lowestOf 3 p) × (p ≡ 3 ^ (k + 3) * r)
@@ -100,28 +107,28 @@ lift27 p k r h m e f =
     (omega (arith, ap (lowestOf 3) w), sym w ∙ ap (λ (n : ℕ). 27 * n) f ∙ sym x)
 
 -- the rows of three that are left of nine places, and the legs of nine that are left of 27
-module _ (n : ℕ) (t00 t01 t11 : Vector) where
-  pub rows-more : (k : ℕ) (a b : Vector) (s : State) → 0 < k → rowsOf n k a b t00 t01 t11 s ≡ rowsOf n (k - 1) t01 t11 t00 t01 t11 (bump 1 b (threeOf n a t00 s))
+module _ (t00 t01 t11 : Vector) where
+  pub rows-more : (k : ℕ) (a b : Vector) (s : State) → 0 < k → rowsOf k a b t00 t01 t11 s ≡ rowsOf (k - 1) t01 t11 t00 t01 t11 (bump 1 b (threeOf a t00 s))
   unfolding rowsOf
   rows-more zero a b s h = absurd (omega arith)
   rows-more (suc k) a b s h =
       let e : k ≡ suc k - 1 = omega arith in
-      ap (λ (j : ℕ). rowsOf n j t01 t11 t00 t01 t11 (bump 1 b (threeOf n a t00 s))) e
+      ap (λ (j : ℕ). rowsOf j t01 t11 t00 t01 t11 (bump 1 b (threeOf a t00 s))) e
 
-  pub rows-none : (a b : Vector) (s : State) → rowsOf n 0 a b t00 t01 t11 s ≡ threeOf n a t00 s
+  pub rows-none : (a b : Vector) (s : State) → rowsOf 0 a b t00 t01 t11 s ≡ threeOf a t00 s
   unfolding rowsOf
   rows-none a b s = refl
 
-pub legs-more : (n k : ℕ) (a b c : Vector) (t : Top) (s : State) → 0 < k → legsOf n k a b c t s ≡ legsOf n (k - 1) (t .t02) (t .t12) (t .t22) t (bump 2 c (nineOf n a b t s))
+pub legs-more : (k : ℕ) (a b c : Vector) (t : Top) (s : State) → 0 < k → legsOf k a b c t s ≡ legsOf (k - 1) (t .t02) (t .t12) (t .t22) t (bump 2 c (nineOf a b t s))
 unfolding legsOf
-legs-more n zero a b c t s h = absurd (omega arith)
-legs-more n (suc k) a b c t s h =
+legs-more zero a b c t s h = absurd (omega arith)
+legs-more (suc k) a b c t s h =
     let e : k ≡ suc k - 1 = omega arith in
-    ap (λ (j : ℕ). legsOf n j (t .t02) (t .t12) (t .t22) t (bump 2 c (nineOf n a b t s))) e
+    ap (λ (j : ℕ). legsOf j (t .t02) (t .t12) (t .t22) t (bump 2 c (nineOf a b t s))) e
 
-pub legs-none : (n : ℕ) (a b c : Vector) (t : Top) (s : State) → legsOf n 0 a b c t s ≡ nineOf n a b t s
+pub legs-none : (a b c : Vector) (t : Top) (s : State) → legsOf 0 a b c t s ≡ nineOf a b t s
 unfolding legsOf
-legs-none n a b c t s = refl
+legs-none a b c t s = refl
 
 -- a walker taken apart, and put together again
 pub apart : (r : Ran) (l : List ℕ) → 3 ≤ length (r .walker .slots) → stateOf r l ≡ whole (partOf r) (drop 3 (r .walker .slots)) l

@@ -13,7 +13,7 @@ use Rattle.gray.specs.Positions.{positions}
 use Rattle.gray.specs.Numbers.{pointOf}
 use Rattle.walks.specs.Walk.{stepOf, iterate, runOf}
 use Rattle.walks.proofs.RunLaw.{run-none, run-halt, run-go, run-many, run-steps}
-use Rattle.walk.specs.Step.{State, push, lift, bump, moveOf, noteOf, walkOf, foundOf, listOf}
+use Rattle.walk.specs.Step.{State, push, lift, bump, moveOf, noteBy, walkBy, walkOf, foundOf, listOf}
 use Rattle.walk.specs.Run.{haltOf}
 
 -- k places on: each finds at most one zero and takes at most two additions
@@ -41,34 +41,34 @@ list-length : (b : Bool) (x k : ℕ) (l : List ℕ) → length (listOf b x k l) 
 list-length true x k l = length-set l k x
 list-length false x k l = refl
 
-module _ (n : ℕ) (T : ℕ → ℕ → Vector) where
+module _ (f : ℕ → ℕ) (T : ℕ → ℕ → Vector) where
   move-near : (ps : List ℕ) (s : State) → Moved s (moveOf T ps s)
   unfolding moveOf bump push lift
   move-near [] s = record { place = refl; found = refl; additions = omega arith; slots = refl; list = refl }
   move-near (b ∷ []) s = record { place = refl; found = refl; additions = omega arith; slots = refl; list = refl }
   move-near (b ∷ c ∷ ps) s = record { place = refl; found = refl; additions = omega arith; slots = length-set (s .slots) b _; list = refl }
 
-  pub step-near : (s : State) → Near s (stepOf 3 (walkOf n T) s) 1
-  unfolding stepOf noteOf
+  pub step-near : (s : State) → Near s (stepOf 3 (walkBy f T) s) 1
+  unfolding stepOf noteBy
   step-near s =
       let m = move-near (positions 3 (s .place)) s in
       let u = moveOf T (positions 3 (s .place)) s in
-      let f = found-le (isZero (u .value)) (u .found) in
+      let g = found-le (isZero (u .value)) (u .found) in
       record {
         place = omega (arith, m .place);
-        found = omega (arith, m .found, f);
-        more = omega (arith, m .found, f);
+        found = omega (arith, m .found, g);
+        more = omega (arith, m .found, g);
         additions = m .additions;
         slots = m .slots;
-        list = list-length (isZero (u .value)) (pointOf 3 n (u .place)) (u .found) (u .list) ∙ ap length (m .list);
+        list = list-length (isZero (u .value)) (f (u .place)) (u .found) (u .list) ∙ ap length (m .list);
       }
 
-  pub iterate-near : (k : ℕ) (s : State) → Near s (iterate 3 (walkOf n T) k s) k
+  pub iterate-near : (k : ℕ) (s : State) → Near s (iterate 3 (walkBy f T) k s) k
   unfolding iterate
   iterate-near zero s = record { place = omega arith; found = omega arith; more = omega arith; additions = omega arith; slots = refl; list = refl }
   iterate-near (suc k) s =
       let m = step-near s in
-      let r = iterate-near k (stepOf 3 (walkOf n T) s) in
+      let r = iterate-near k (stepOf 3 (walkBy f T) s) in
       record {
         place = omega (arith, m .place, r .place);
         found = omega (arith, m .found, r .found);
@@ -78,6 +78,7 @@ module _ (n : ℕ) (T : ℕ → ℕ → Vector) where
         list = r .list ∙ m .list;
       }
 
+module _ (n : ℕ) (T : ℕ → ℕ → Vector) where
   -- ---- when a run halts, and when it goes on
   pub goes : (e : ℕ) (s : State) → (s .place ≡ e → ⊥) → (s .found ≡ length (s .list) → ⊥) → haltOf e s ≡ false
   goes e s f g = rw (ne-eqb _ _ f, ne-eqb _ _ g)
@@ -101,7 +102,7 @@ module _ (n : ℕ) (T : ℕ → ℕ → Vector) where
   leap e k j s h p l =
       run-many 3 (walkOf n T) (haltOf e) k j s h
       (λ i hi.
-      let m = iterate-near i s in
+      let m = iterate-near (pointOf 3 n) T i s in
       goes e (iterate 3 (walkOf n T) i s) (λ z. omega (arith, m .place)) (λ z. omega (arith, m .found, m .list)))
 
   -- a run goes no place back, and no more than it may
@@ -109,7 +110,7 @@ module _ (n : ℕ) (T : ℕ → ℕ → Vector) where
       → (s .place ≤ (runOf 3 (walkOf n T) (haltOf e) j s) .place) × ((runOf 3 (walkOf n T) (haltOf e) j s) .place ≤ s .place + j)
   run-place e j s =
       let r = run-steps 3 (walkOf n T) (haltOf e) j s in
-      let m = iterate-near (r .count) s in
+      let m = iterate-near (pointOf 3 n) T (r .count) s in
       rw (r .same) (omega (arith, m .place, r .most), omega (arith, m .place, r .most))
 
   stay : (e k : ℕ) (s r : State) → r ≡ s → runOf 3 (walkOf n T) (haltOf e) (k - (r .place - s .place)) r ≡ runOf 3 (walkOf n T) (haltOf e) k s
@@ -130,7 +131,7 @@ module _ (n : ℕ) (T : ℕ → ℕ → Vector) where
           ≡ runOf 3 (walkOf n T) (haltOf e) (suc k) s
       more true b ih = stay e (suc k) s _ (run-halt 3 (walkOf n T) (haltOf e) (suc j) s b)
       more false b ih =
-          let w = step-near s in
+          let w = step-near (pointOf 3 n) T s in
           let p = run-place e j (stepOf 3 (walkOf n T) s) in
           rw (run-go 3 (walkOf n T) (haltOf e) j s b, run-go 3 (walkOf n T) (haltOf e) k s b)
           (ap (λ (x : ℕ). runOf 3 (walkOf n T) (haltOf e) x (runOf 3 (walkOf n T) (haltOf e) j (stepOf 3 (walkOf n T) s))) (omega (arith, w .place, p)) ∙ ih)

@@ -11,6 +11,7 @@ use lib.ListN.{length}
 use borrow.Author.Tests.{eq-eqb, ne-eqb}
 use Rattle.trits.specs.declared.Vector.{Vector}
 use Rattle.walks.specs.Walk.{stepOf, iterate}
+use Rattle.gray.specs.Numbers.{pointOf}
 use Rattle.walk.specs.Step.{State, walkOf}
 use Rattle.gray.specs.Positions.{lowestOf}
 use Rattle.walk.specs.Run.{product, searchOf, Sized}
@@ -40,7 +41,7 @@ module _ (t : List ℕ) (n e : ℕ) where
   pub walked-more : (k budget left : ℕ) (s₀ s r : State) → Walked t n e budget left s₀ s → k ≤ left → s .place + k ≤ e → s .found + k ≤ length (s .list)
       → r ≡ iterate 3 (walkOf n (product t n)) k s → Walked t n e budget (left - k) s₀ r
   walked-more k budget left s₀ s r w h p l i =
-      let m = iterate-near n (product t n) k s in
+      let m = iterate-near (pointOf 3 n) (product t n) k s in
       let u = iterate 3 (walkOf n (product t n)) k s in
       let v : Walked t n e budget (left - k) s₀ u =
       record {

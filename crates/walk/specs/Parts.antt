@@ -5,7 +5,7 @@ use lib.ListN.{getD, set}
 use Prim.Native.Nat.{ℕ, zero, suc, _+_, _≤_}
 use Rattle.trits.specs.declared.Vector.{Vector}
 use Rattle.trits.specs.Trit.{none}
-use Rattle.walk.specs.Step.{State, bump, noteOf}
+use Rattle.walk.specs.Step.{State, bump, noteBy}
 use Rattle.walk.specs.declared.Ran.{Ran}
 use Rattle.walk.specs.declared.moves.Moved.{Moved}
 use Rattle.walk.specs.declared.parts.Part.{Part}
@@ -42,27 +42,36 @@ pub record Went (x r : Part) (k a : ℕ) : Type 0 where
   pub found : r .found ≤ x .found + k
   pub additions : r .additions ≤ x .additions + a
 
+-- inside a block a zero is listed as its place; the block's end turns the places into points
+abbrev pub jotOf : State → State
+jotOf s = noteBy (λ p. p) s
+
 -- three places, where the first has been moved to
-unfoldable pub threeOf : ℕ → Vector → Vector → State → State
-threeOf n th t00 s = noteOf n (bump 0 t00 (noteOf n (bump 0 th (noteOf n s))))
+unfoldable pub threeOf : Vector → Vector → State → State
+threeOf th t00 s = jotOf (bump 0 t00 (jotOf (bump 0 th (jotOf s))))
 
 -- three places, and k times a move of slot 1 and three more
-unfoldable pub rowsOf : ℕ → ℕ → Vector → Vector → Vector → Vector → Vector → State → State
-rowsOf n zero t0h t1h t00 t01 t11 s = threeOf n t0h t00 s
-rowsOf n (suc k) t0h t1h t00 t01 t11 s = rowsOf n k t01 t11 t00 t01 t11 (bump 1 t1h (threeOf n t0h t00 s))
+unfoldable pub rowsOf : ℕ → Vector → Vector → Vector → Vector → Vector → State → State
+rowsOf zero t0h t1h t00 t01 t11 s = threeOf t0h t00 s
+rowsOf (suc k) t0h t1h t00 t01 t11 s = rowsOf k t01 t11 t00 t01 t11 (bump 1 t1h (threeOf t0h t00 s))
 
 -- nine places, where the first has been moved to
-unfoldable pub nineOf : ℕ → Vector → Vector → Top → State → State
-nineOf n t0h t1h t s = rowsOf n 2 t0h t1h (t .t00) (t .t01) (t .t11) s
+unfoldable pub nineOf : Vector → Vector → Top → State → State
+nineOf t0h t1h t s = rowsOf 2 t0h t1h (t .t00) (t .t01) (t .t11) s
 
 -- nine places, and k times a move of slot 2 and nine more
-unfoldable pub legsOf : ℕ → ℕ → Vector → Vector → Vector → Top → State → State
-legsOf n zero t0h t1h t2h t s = nineOf n t0h t1h t s
-legsOf n (suc k) t0h t1h t2h t s = legsOf n k (t .t02) (t .t12) (t .t22) t (bump 2 t2h (nineOf n t0h t1h t s))
+unfoldable pub legsOf : ℕ → Vector → Vector → Vector → Top → State → State
+legsOf zero t0h t1h t2h t s = nineOf t0h t1h t s
+legsOf (suc k) t0h t1h t2h t s = legsOf k (t .t02) (t .t12) (t .t22) t (bump 2 t2h (nineOf t0h t1h t s))
 
 -- 27 places, where the first has been moved to
-abbrev pub bigOf : ℕ → Vector → Vector → Vector → Top → State → State
-bigOf n t0h t1h t2h t s = legsOf n 2 t0h t1h t2h t s
+abbrev pub bigOf : Vector → Vector → Vector → Top → State → State
+bigOf t0h t1h t2h t s = legsOf 2 t0h t1h t2h t s
+
+-- k entries of a list from a on, each turned into f of it
+unfoldable pub turnedIn : (ℕ → ℕ) → ℕ → ℕ → List ℕ → List ℕ
+turnedIn f a zero l = l
+turnedIn f a (suc k) l = set (turnedIn f a k l) (a + k) (f (getD (turnedIn f a k l) (a + k) 0))
 
 -- the entries that every block uses
 abbrev pub topOf : (ℕ → ℕ → Vector) → Top

@@ -62,18 +62,26 @@ abbrev pub listOf : Bool → ℕ → ℕ → List ℕ → List ℕ
 listOf true x k l = set l k x
 listOf false x k l = l
 
--- a zero's point is listed, for n unknowns, and the place is passed
-unfoldable pub noteOf : ℕ → State → State
-noteOf n s =
+-- a zero is listed, as f of its place, and the place is passed
+unfoldable pub noteBy : (ℕ → ℕ) → State → State
+noteBy f s =
     record {
       place = s .place + 1;
       value = s .value;
       slots = s .slots;
       additions = s .additions;
       found = foundOf (isZero (s .value)) (s .found);
-      list = listOf (isZero (s .value)) (pointOf 3 n (s .place)) (s .found) (s .list);
+      list = listOf (isZero (s .value)) (f (s .place)) (s .found) (s .list);
     }
+
+-- a zero's point is listed, for n unknowns
+abbrev pub noteOf : ℕ → State → State
+noteOf n s = noteBy (pointOf 3 n) s
+
+-- the walk over the table T, with f of each zero's place listed
+abbrev pub walkBy : (ℕ → ℕ) → (ℕ → ℕ → Vector) → Walk State
+walkBy f T = record { place = λ s. s .place; move = moveOf T; note = noteBy f }
 
 -- the walk over n unknowns and the table T
 abbrev pub walkOf : ℕ → (ℕ → ℕ → Vector) → Walk State
-walkOf n T = record { place = λ s. s .place; move = moveOf T; note = noteOf n }
+walkOf n T = walkBy (pointOf 3 n) T

@@ -2,6 +2,7 @@
 use crate::Ran;
 use crate::Walker;
 use crate::moves::head;
+use crate::moves::points;
 use crate::parts::Part;
 use crate::parts::Top;
 use crate::parts::big;
@@ -75,7 +76,8 @@ fn block27(
     let mut y = x;
     y.value = next;
     y.additions = h.additions;
-    let part = big(n, y, t0h, t1h, t2h, top, list);
+    let part = big(y, t0h, t1h, t2h, top, list);
+    points(n, list, x.found, part.found);
     Turned { part, slot: up }
 }
 

@@ -2,14 +2,14 @@
 use gray::Place;
 use trits::Vector;
 ghost use mathlib.Core.Path.{_≡_};
-ghost use Prim.Native.Nat.{_+_, _*_, _^_, _<_, _≤_};
+ghost use Prim.Native.Nat.{_+_, _-_, _*_, _^_, _<_, _≤_};
 ghost use lib.ListN.{length, getD};
 ghost use Rattle.trits.specs.Trit.{none};
 ghost use Rattle.trits.specs.Words.{addOf, isZero};
 ghost use Rattle.gray.specs.Positions.{lowestOf, positions};
 ghost use Rattle.gray.specs.Numbers.{pointOf};
 ghost use Rattle.walk.specs.Step.{State, moveOf, foundOf, listOf};
-ghost use Rattle.walk.specs.Parts.{headed};
+ghost use Rattle.walk.specs.Parts.{headed, turnedIn};
 ghost use Rattle.walk.specs.Run.{product, Sized};
 
 // A sum, and the additions with it.
@@ -50,6 +50,35 @@ pub fn mark(n: usize, value: Vector, place: u64, found: usize, list: &mut [u64])
         found + 1
     } else {
         found
+    }
+}
+
+// The same with the place itself: inside a block nothing is divided.
+pub fn jot(value: Vector, place: u64, found: usize, list: &mut [u64]) -> usize
+    requires { ⌜ found < length (now list) ⌝ }
+    ensures count { λ r. ⌜ r ≡ foundOf (isZero value) found ⌝ }
+    ensures list { λ _. ⌜ now (list .exit) ≡ listOf (isZero value) place found (now (list .entry)) ⌝ }
+    ensures bound { λ r. ⌜ (found ≤ r) × (r ≤ found + 1) ⌝ }
+{
+    if trits::is_zero(value) {
+        list[found] = place;
+        found + 1
+    } else {
+        found
+    }
+}
+
+// The places listed in entries from `from` to before `to` become their points.
+pub fn points(n: usize, list: &mut [u64], from: usize, to: usize)
+    requires { ⌜ (n ≤ 20) × (to ≤ length (now list)) ⌝ }
+    ensures { λ _. ⌜ now (list .exit) ≡ turnedIn (pointOf 3 n) from (to - from) (now (list .entry)) ⌝ }
+{
+    let mut i = from;
+    while i < to {
+        let place = list[i];
+        let point = gray::point_at(n as u64, Place(place));
+        list[i] = point.0;
+        i += 1;
     }
 }
 

@@ -1,5 +1,5 @@
 // Blocks of 27 places: 27 is three nines, nine is three threes, and only slots 0 to 2 move inside.
-use crate::moves::mark;
+use crate::moves::jot;
 use crate::moves::plus;
 use trits::Vector;
 ghost use mathlib.Core.Path.{_≡_};
@@ -7,8 +7,8 @@ ghost use mathlib.Core.List.{List};
 ghost use Prim.Native.Nat.{ℕ, _+_, _^_, _<_, _≤_};
 ghost use lib.ListN.{length};
 ghost use Rattle.trits.specs.declared.Vector.{Vector};
-ghost use Rattle.walk.specs.Step.{bump, noteOf};
-ghost use Rattle.walk.specs.Parts.{whole, Went, threeOf, nineOf, bigOf};
+ghost use Rattle.walk.specs.Step.{bump};
+ghost use Rattle.walk.specs.Parts.{whole, Went, jotOf, threeOf, nineOf, bigOf};
 
 // What moves inside a block: the value, the slots of unknowns 0 to 2, and the counts. Flat, so that it stays in registers.
 pub struct Part {
@@ -31,15 +31,15 @@ pub struct Top {
     pub t22: Vector,
 }
 
-// The value is noted, and the place is passed.
-fn note(n: usize, mut x: Part, list: &mut [u64]) -> Part
-    requires { ⌜ (n ≤ 20) × (x .found + 1 ≤ length (now list)) × (x .place + 1 < 2 ^ 64) ⌝ }
-    ensures state { λ r. ⌜ ((rest : List Vector) → whole r rest (now (list .exit)) ≡ noteOf n (whole x rest (now (list .entry)))) ⌝ }
+// The place is listed where the value is zero, and it is passed.
+fn note(mut x: Part, list: &mut [u64]) -> Part
+    requires { ⌜ (x .found + 1 ≤ length (now list)) × (x .place + 1 < 2 ^ 64) ⌝ }
+    ensures state { λ r. ⌜ ((rest : List Vector) → whole r rest (now (list .exit)) ≡ jotOf (whole x rest (now (list .entry)))) ⌝ }
     ensures went { λ r. ⌜ Went x r 1 0 ⌝ }
 {
     let value = x.value;
     let place = x.place;
-    let found = mark(n, value, place, x.found, list);
+    let found = jot(value, place, x.found, list);
     x.found = found;
     x.place = place + 1;
     x
@@ -100,30 +100,30 @@ fn move2(mut x: Part, t: Vector) -> Part
 }
 
 // A place where slot 0 moves.
-fn step0(n: usize, x: Part, t: Vector, list: &mut [u64]) -> Part
-    requires { ⌜ (n ≤ 20) × (x .found + 1 ≤ length (now list)) × (x .place + 1 < 2 ^ 64) × (x .additions + 2 < 2 ^ 64) ⌝ }
-    ensures state { λ r. ⌜ ((rest : List Vector) → whole r rest (now (list .exit)) ≡ noteOf n (bump 0 t (whole x rest (now (list .entry))))) ⌝ }
+fn step0(x: Part, t: Vector, list: &mut [u64]) -> Part
+    requires { ⌜ (x .found + 1 ≤ length (now list)) × (x .place + 1 < 2 ^ 64) × (x .additions + 2 < 2 ^ 64) ⌝ }
+    ensures state { λ r. ⌜ ((rest : List Vector) → whole r rest (now (list .exit)) ≡ jotOf (bump 0 t (whole x rest (now (list .entry))))) ⌝ }
     ensures went { λ r. ⌜ Went x r 1 2 ⌝ }
 {
     let m = move0(x, t);
-    note(n, m, list)
+    note(m, list)
 }
 
 // Three places, where the first has been moved to.
-fn three(n: usize, x: Part, th: Vector, t00: Vector, list: &mut [u64]) -> Part
-    requires { ⌜ (n ≤ 20) × (x .found + 3 ≤ length (now list)) × (x .place + 3 < 2 ^ 64) × (x .additions + 4 < 2 ^ 64) ⌝ }
-    ensures state { λ r. ⌜ ((rest : List Vector) → whole r rest (now (list .exit)) ≡ threeOf n th t00 (whole x rest (now (list .entry)))) ⌝ }
+fn three(x: Part, th: Vector, t00: Vector, list: &mut [u64]) -> Part
+    requires { ⌜ (x .found + 3 ≤ length (now list)) × (x .place + 3 < 2 ^ 64) × (x .additions + 4 < 2 ^ 64) ⌝ }
+    ensures state { λ r. ⌜ ((rest : List Vector) → whole r rest (now (list .exit)) ≡ threeOf th t00 (whole x rest (now (list .entry)))) ⌝ }
     ensures went { λ r. ⌜ Went x r 3 4 ⌝ }
 {
-    let a = note(n, x, list);
-    let b = step0(n, a, th, list);
-    step0(n, b, t00, list)
+    let a = note(x, list);
+    let b = step0(a, th, list);
+    step0(b, t00, list)
 }
 
 // Nine places, where the first has been moved to.
-fn nine(n: usize, x: Part, t0h: Vector, t1h: Vector, top: Top, list: &mut [u64]) -> Part
-    requires { ⌜ (n ≤ 20) × (x .found + 9 ≤ length (now list)) × (x .place + 9 < 2 ^ 64) × (x .additions + 16 < 2 ^ 64) ⌝ }
-    ensures state { λ r. ⌜ ((rest : List Vector) → whole r rest (now (list .exit)) ≡ nineOf n t0h t1h top (whole x rest (now (list .entry)))) ⌝ }
+fn nine(x: Part, t0h: Vector, t1h: Vector, top: Top, list: &mut [u64]) -> Part
+    requires { ⌜ (x .found + 9 ≤ length (now list)) × (x .place + 9 < 2 ^ 64) × (x .additions + 16 < 2 ^ 64) ⌝ }
+    ensures state { λ r. ⌜ ((rest : List Vector) → whole r rest (now (list .exit)) ≡ nineOf t0h t1h top (whole x rest (now (list .entry)))) ⌝ }
     ensures went { λ r. ⌜ Went x r 9 16 ⌝ }
 {
     let t00 = top.t00;
@@ -134,7 +134,7 @@ fn nine(n: usize, x: Part, t0h: Vector, t1h: Vector, top: Top, list: &mut [u64])
     let mut a1 = t1h;
     let mut left: u32 = 2;
     loop {
-        y = three(n, y, a0, t00, list);
+        y = three(y, a0, t00, list);
         if left == 0 {
             return y;
         }
@@ -146,17 +146,9 @@ fn nine(n: usize, x: Part, t0h: Vector, t1h: Vector, top: Top, list: &mut [u64])
 }
 
 // 27 places, where the first has been moved to.
-pub fn big(
-    n: usize,
-    x: Part,
-    t0h: Vector,
-    t1h: Vector,
-    t2h: Vector,
-    top: Top,
-    list: &mut [u64],
-) -> Part
-    requires { ⌜ (n ≤ 20) × (x .found + 27 ≤ length (now list)) × (x .place + 27 < 2 ^ 64) × (x .additions + 52 < 2 ^ 64) ⌝ }
-    ensures state { λ r. ⌜ ((rest : List Vector) → whole r rest (now (list .exit)) ≡ bigOf n t0h t1h t2h top (whole x rest (now (list .entry)))) ⌝ }
+pub fn big(x: Part, t0h: Vector, t1h: Vector, t2h: Vector, top: Top, list: &mut [u64]) -> Part
+    requires { ⌜ (x .found + 27 ≤ length (now list)) × (x .place + 27 < 2 ^ 64) × (x .additions + 52 < 2 ^ 64) ⌝ }
+    ensures state { λ r. ⌜ ((rest : List Vector) → whole r rest (now (list .exit)) ≡ bigOf t0h t1h t2h top (whole x rest (now (list .entry)))) ⌝ }
     ensures went { λ r. ⌜ Went x r 27 52 ⌝ }
 {
     let t02 = top.t02;
@@ -168,7 +160,7 @@ pub fn big(
     let mut a2 = t2h;
     let mut left: u32 = 2;
     loop {
-        y = nine(n, y, a0, a1, top, list);
+        y = nine(y, a0, a1, top, list);
         if left == 0 {
             return y;
         }

@@ -16,6 +16,7 @@ use Rattle.walk.proofs.blocks.block27.Reads as reads
 use Rattle.walk.proofs.blocks.block27.Lts as lts
 use Rattle.tables.proofs.entry.Reads as entry-reads
 use Rattle.walk.proofs.moves.head.Reads as head-reads
+use Rattle.walk.proofs.moves.points.Reads as points-reads
 use Rattle.walk.proofs.parts.big.Reads as big-reads
 
 -- src/blocks.rt:69:9
@@ -65,7 +66,15 @@ big-requires c κs =
     let h : lowestOf 3 (a .x .place) < a .n = of-lt 3 two (a .n) (a .x .place) (q .0) (omega (arith, q)) in
     let t : 3 ≤ lowestOf 3 (a .x .place) = low27 (a .x .place) (q .0) (q .1) in
     let e = end-small (a .n) (z .small) in
-    (z .small, s .pre .1 .1 .1 .0, omega (arith, q), omega (arith, c .before .before .before .before .before .before .head .ensures .1, s .pre .1 .1 .1))
+    (s .pre .1 .1 .1 .0, omega (arith, q), omega (arith, c .before .before .before .before .before .before .head .ensures .1, s .pre .1 .1 .1))
+
+-- src/blocks.rt:81:5
+points-requires : tie.Need-points-requires
+points-requires c κs =
+    let r = c .before .before .before .big in
+    let s = c .before .before .before .before .before .before .before .before .before .before .before .before .before .before in
+    let z = s .pre .0 in
+    (z .small, omega (arith, r .ensures .1 .found, r .kept, s .pre .1 .1 .1 .0))
 
 -- src/blocks.rt:51:1
 same-length : tie.Need-same-length
@@ -74,21 +83,22 @@ same-length c = search needs
 -- src/blocks.rt:51:1
 returns : tie.Need-returns
 returns c =
-    let s = c .before .before .before .before .before .before .before .before .before .before .before .before .before in
+    let s = c .before .before .before .before .before .before .before .before .before .before .before .before .before .before .before .before .before in
     let a = s .args in
     let z = s .pre .0 in
     let q = s .pre .1 .1 .0 in
     let h : lowestOf 3 (a .x .place) < a .n = of-lt 3 two (a .n) (a .x .place) (q .0) (omega (arith, q)) in
     let t : 3 ≤ lowestOf 3 (a .x .place) = low27 (a .x .place) (q .0) (q .1) in
-    let g = c .before .before .before .before .before .before .before .before .before .head in
-    let r = c .before .before .big in
+    let g = c .before .before .before .before .before .before .before .before .before .before .before .before .before .head in
+    let r = c .before .before .before .before .before .before .big in
     let l = a .list .now in
     let b = a .b in
     let u : 3 ≤ b = omega (arith, q) in
     λ rest hs hl.
     let m = g .ensures .0 (whole (a .x) rest l) refl refl (get3 (a .x .s0) (a .x .s1) (a .x .s2) rest b u ∙ hs) (omega arith) in
-    block27-is (a .n) (product (a .table .now) (a .n)) (a .x) (r .result) rest l _ b (g .result) (q .0) (q .1) (q .3) m
-    (r .ensures .0 (set rest (b - 3) (g .result .slot)) ∙ rw (c .before .before .before .before .before .before .before .before .entry .ensures, c .before .before .before .before .before .before .before .entry2 .ensures, c .before .before .before .before .before .before .entry3 .ensures, s .pre .1 .0))
+    block27-is (a .n) (product (a .table .now) (a .n)) (a .x) (r .result) rest l _ _ b (g .result) (q .0) (q .1) (q .3) (s .pre .1 .1 .1 .0) m
+    (r .ensures .0 (set rest (b - 3) (g .result .slot)) ∙ rw (c .before .before .before .before .before .before .before .before .before .before .before .before .entry .ensures, c .before .before .before .before .before .before .before .before .before .before .before .entry2 .ensures, c .before .before .before .before .before .before .before .before .before .before .entry3 .ensures, s .pre .1 .0))
+    (c .before .before .points .ensures)
 
 pub block27-spec : {M : Type 1} → statement M
 block27-spec =
@@ -99,5 +109,6 @@ block27-spec =
     entry-requires-2
     entry-requires-3
     big-requires
+    points-requires
     same-length
     returns)

@@ -1,16 +1,16 @@
 -- `walk::parts::note` meets its contract.
 use native.Mathlib.Omega.{arith}
-use Rattle.walk.specs.Step.{noteOf}
+use Rattle.walk.specs.Step.{noteBy}
 use borrow.Author.Needs.{needs}
 use Rattle.walk.proofs.parts.note.Statement.{statement}
 use Rattle.walk.proofs.parts.note.Tie as tie
 use Rattle.walk.proofs.parts.note.Reads as reads
 use Rattle.walk.proofs.parts.note.Lts as lts
-use Rattle.walk.proofs.moves.mark.Reads as mark-reads
+use Rattle.walk.proofs.moves.jot.Reads as jot-reads
 
 -- src/parts.rt:42:9
-mark-requires : tie.Need-mark-requires
-mark-requires c κs = search needs
+jot-requires : tie.Need-jot-requires
+jot-requires c κs = search needs
 
 -- src/parts.rt:44:15
 add-x : tie.Need-add-x
@@ -22,10 +22,10 @@ same-length c = search needs
 
 -- src/parts.rt:35:1
 returns : tie.Need-returns
-unfolding noteOf
+unfolding noteBy
 returns c =
-    let m = c .before .before .mark .ensures in
+    let m = c .before .before .jot .ensures in
     ((λ rest. rw (m .0, m .1 .0)), record { place = omega (arith, m .1 .1); found = omega (arith, m .1 .1); additions = omega (arith, m .1 .1) })
 
 pub note-spec : {M : Type 1} → statement M
-note-spec = tie.close (tie.spec mark-requires add-x same-length returns)
+note-spec = tie.close (tie.spec jot-requires add-x same-length returns)

@@ -1,7 +1,7 @@
 -- `walk::parts::step0` meets its contract: its move, then its note.
 use mathlib.Core.Path.{ap, _∙_}
 use native.Mathlib.Omega.{arith}
-use Rattle.walk.specs.Step.{noteOf}
+use Rattle.walk.specs.Parts.{jotOf}
 use borrow.Author.Needs.{needs}
 use Rattle.walk.proofs.parts.step0.Statement.{statement}
 use Rattle.walk.proofs.parts.step0.Tie as tie
@@ -28,7 +28,7 @@ returns c =
     let n = c .before .before .note .ensures in
     let m = c .before .before .before .before .move0 .ensures in
     let a = c .before .before .before .before .before .before .args in (
-      (λ rest. n .0 rest ∙ ap (noteOf (a .n)) (m .0 rest (a .list .now))),
+      (λ rest. n .0 rest ∙ ap jotOf (m .0 rest (a .list .now))),
       record { place = omega (arith, n .1, m .1); found = omega (arith, n .1, m .1); additions = omega (arith, n .1, m .1) },
     )
 
