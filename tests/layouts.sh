@@ -40,7 +40,7 @@ gives() {
 for file in examples/*.col; do
     case $(head -n 1 "${file%.col}.out") in
     vars*) gives 0 '' ./layouts "$file" ;;
-    refused*) gives 2 '^layouts: refused: line 4: an edge from a vertex' ./layouts "$file" ;;
+    refused*) gives 2 '^layouts: refused: ' ./layouts "$file" ;;
     *) fail "${file%.col}.out is no output" ;;
     esac
     cmp "$out/stdout" "${file%.col}.out" || fail "$file: another output"
@@ -59,10 +59,12 @@ gives 1 'unknown option' script --all
 gives 1 'one file at a time' script examples/triangle.col examples/full4.col
 gives 1 'no such file' script "$out/missing"
 gives 1 'folder' script examples
-gives 1 . from examples # a folder as standard input: the read fails
+gives 1 'did not end' from examples # a folder can be opened and not be read
 closed_input() { ./layouts <&-; }
-gives 1 'could not be read' closed_input
-! grep -q . "$out/stdout" || fail "a closed input: something was written"
+gives 1 'did not end' closed_input
+program_closed_input() { target/bin/layouts <&-; }
+gives 0 . program_closed_input # in words: the program has no exit status
+[[ ! -s $out/stdout ]] || fail "a closed input: $(head -n 1 "$out/stdout")"
 gives 2 'refused: there is no p line (11)' from /dev/null
 [[ $(cat "$out/stdout") == 'refused 11 line 0' ]] || fail 'an empty text'
 
@@ -84,14 +86,17 @@ full() { ./layouts examples/triangle.col >/dev/full; }
 gives 1 'could not be written' full
 closed_output() { ./layouts examples/triangle.col >&-; }
 gives 1 'could not be written' closed_output
-program_full() { target/bin/layouts <examples/triangle.col >/dev/full || true; }
-gives 0 'could not be written' program_full
+program_full() { target/bin/layouts <examples/triangle.col >/dev/full; }
+gives 0 . program_full
 appended() { echo before && ./layouts examples/full4.col; }
 echo first >"$out/file" && appended >>"$out/file"
 [[ $(cut -d ' ' -f 1 "$out/file" | tr '\n' ' ') == 'first before vars points ' ]] || fail 'output that is appended'
 passed
 printf 'p edge 9 1\ne 1 2\n' >"$out/text" # more lines than a pipe holds
-head_only() { local ends; ./layouts "$out/text" | head -n 1 || ends=${PIPESTATUS[0]}; return "${ends:-0}"; }
+head_only() { # with SIGPIPE as a planner's shell has it, whoever runs this test
+    # shellcheck disable=SC2016
+    env --default-signal=PIPE bash -c './layouts "$0" | head -n 1; exit "${PIPESTATUS[0]}"' "$out/text"
+}
 gives 1 '' head_only
 [[ $(cat "$out/stdout") == 'vars 9 eqs 1' ]] || fail 'the head of the output'
 
@@ -129,10 +134,23 @@ done <<'END'
 15|0|the text is longer than 32,768 bytes
 END
 
-# Killed itself, it leaves nothing behind and does not look ended.
-printf '#!/bin/sh\necho vars; sleep 1; echo more; echo "%s"\n' "$ended" >"$copy/target/bin/layouts"
-killed() { "$copy/layouts" examples/triangle.col & sleep 0.3; kill "$!"; wait "$!"; }
+# Killed itself, it takes the program with it, leaves nothing behind and does not look ended.
+cat >"$copy/target/bin/layouts" <<'END'
+#!/bin/sh
+echo $$
+for k in $(seq 100); do sleep 0.1; echo more; done
+END
+until_true() { local turn; for ((turn = 0; turn < 100; turn++)); do ! "$@" || return 0; sleep 0.05; done; return 1; }
+begun() { [[ -s $out/part ]]; }
+gone() { ! kill -0 "$(head -n 1 "$out/part")" 2>/dev/null; }
+killed() {
+    env --default-signal=PIPE "$copy/layouts" examples/triangle.col >"$out/part" &
+    until_true begun
+    kill "$!"
+    wait "$!"
+}
 gives 143 '' killed
+until_true gone || fail 'the program runs on'
 [[ -z $(ls "$TMPDIR") ]] || fail "left behind: $(ls "$TMPDIR")"
 
 # ---- the script builds what is missing or older than its sources, and nothing else ----
