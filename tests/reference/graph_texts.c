@@ -223,7 +223,7 @@ static void damage_structure(enum damage kind) {
     case E_BEFORE_P: insert_format(p, "e %u %u\n", ONE_OF(a, 0), ONE_OF(b, a)); break;
     case NO_P: erase(p, next_line(p) - p); break;
     case EDGE_TOO_MANY: insert_format(e, "e %u %u\n", a, a % vertices + 1); break;
-    case BAD_EDGE_TOO_MANY: insert_format(at, "e %u %u\n", a, ONE_OF(a, 0, vertices + 1)); break;
+    case BAD_EDGE_TOO_MANY: insert_format(length, "e %u %u\n", a, ONE_OF(a, 0, vertices + 1)); break;
     case EDGE_TOO_FEW: erase(e, next_line(e) - e); break;
     case DECLARED_OTHERWISE: replace_line(p, "p edge %u %u", vertices, 1 + below(64)); break;
     case BAD_VERTICES: replace_line(p, "p edge %u %u", ONE_OF(0, 21, 22, 256 + a), edges); break;
@@ -333,7 +333,7 @@ static void save_text(const char *folder, uint64_t k) {
 
 int main(int count, char **words) {
     uint64_t seed, k;
-    if (count != 3 && count != 4) fail("usage: graph_texts SEED K, or graph_texts SEED COUNT FOLDER");
+    if (count != 3 && count != 4) fail("usage: SEED K, or SEED COUNT FOLDER");
     seed = strtoull(words[1], NULL, 10);
     k = strtoull(words[2], NULL, 10);
     if (k == 0) fail("texts are counted from 1");
