@@ -208,7 +208,7 @@ agrees() {
 }
 agrees target/bin/layouts >&2 || fail 'the program and the second program differ'
 passed
-for ((k = 1; k <= texts && k <= 50; k++)); do # the script too: the same bytes, and the status for them
+for ((k = 1; k <= texts && k <= 30; k++)); do # the script too: the same bytes, and the status for them
     wanted=$(($(grep -c '^refused' "$out/expected/$k" || true) * 2))
     [[ $(status_of ./layouts "$out/texts/$k") -eq $wanted ]] || fail "./layouts on text $k of seed $seed: another status"
     cmp "$out/stdout" "$out/expected/$k" || fail "./layouts on text $k of seed $seed: another output"
