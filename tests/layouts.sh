@@ -193,10 +193,10 @@ for ((k = 1; k <= texts; k++)); do
     ((k % 20 != 0)) || "$out/layouts_model" <"$out/texts/$k" | cmp - "$out/expected/$k"
 done
 
-# agrees PROGRAM: on all texts; says the first one where it does not, and sets agreed
+# agrees PROGRAM: on all texts; says the first one where it does not
 agrees() {
-    for ((agreed = 0; agreed < texts; agreed++)); do
-        local k=$((agreed + 1))
+    local k
+    for ((k = 1; k <= texts; k++)); do
         "$1" <"$out/texts/$k" >"$out/stdout" 2>"$out/stderr" || true
         cmp -s "$out/stdout" "$out/expected/$k" && continue
         echo "text $k of seed $seed differs (SEED=$seed TEXTS=$k shows it again). Expected and written:"
