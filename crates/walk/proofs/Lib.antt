@@ -5,6 +5,5 @@ pub mod SearchLaw
 pub mod WalkedLaw
 pub mod BlocksLaw
 pub mod MeanLaw
-pub mod ListLaw
 pub mod CallLaw
 pub mod Cases

@@ -1,16 +1,16 @@
 -- What a state says of the system behind the table, and which trail of calls the search follows.
 use mathlib.Core.Path.{_≡_}
 use mathlib.Core.Bool.{Bool, true, _&&_}
-use mathlib.Core.List.{List, _++_}
+use mathlib.Core.List.{List}
 use Prim.Native.Nat.{ℕ, zero, suc, _+_, _-_, _%_, _<_, _≤_, min}
 use lib.Dec.{eqb}
-use lib.ListN.{length, getD, take, drop}
+use lib.ListN.{length, getD}
 use Rattle.trits.specs.declared.Vector.{Vector}
 use Rattle.trits.specs.Trit.{trit, Legal, none}
 use Rattle.gray.specs.Positions.{positions, latest}
 use Rattle.gray.specs.Numbers.{pointDigit, pointOf}
 use Rattle.polynomials.specs.Poly.{Poly, valueOf, eval, diff, tableOf}
-use Rattle.walks.specs.Calls.{Trail, zerosIn, costIn, reportOf, stopAt, listAfter}
+use Rattle.walks.specs.Calls.{Trail, reportOf, stopAt, listAfter}
 use Rattle.walk.specs.Step.{State}
 
 -- every vector of a state is legal
@@ -54,17 +54,6 @@ trailOf F n m e =
       entry = pointOf 3 n;
       cost = λ p. min 2 (length (positions 3 p));
     }
-
--- z written into l from entry k on
-abbrev pub filled : ℕ → List ℕ → List ℕ → List ℕ
-filled k l z = take k l ++ (z ++ drop (k + length z) l)
-
--- r is s after k places of a trail from p on: what they cost is added, their zeros are counted, and are listed after those that were there
-pub record Called (T : Trail) (p k : ℕ) (s r : State) : Type 0 where
-  pub place : r .place ≡ p + k
-  pub additions : r .additions ≡ s .additions + costIn T p k
-  pub found : r .found ≡ s .found + length (zerosIn T p k)
-  pub list : r .list ≡ filled (s .found) (s .list) (zerosIn T p k)
 
 -- r is what a call on a trail leaves, from place p with the budget b and the list l: the report's counts and stop, and the list after
 pub record Answers (T : Trail) (b p : ℕ) (l : List ℕ) (r : State) : Type 0 where
