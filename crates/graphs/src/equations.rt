@@ -1,32 +1,16 @@
 // The coefficient words of a graph: one equation for each edge.
 use crate::reading::Graph;
+use tables::index;
 use trits::Vector;
 use trits::with_trit;
 ghost use mathlib.Core.Path.{_≡_};
 ghost use Prim.Native.Nat.{_+_, _*_, _<_, _≤_, min, max};
 ghost use lib.ListN.{length, replicate};
-ghost use Rattle.tables.specs.Monomials.{countOf, indexOf};
+ghost use Rattle.tables.specs.Monomials.{countOf};
 ghost use Rattle.tables.specs.Words.{wordsOf};
 ghost use Rattle.graphs.specs.Equations.{systemOf};
 ghost use Rattle.graphs.specs.Answers.{edgesOf};
 ghost use Rattle.graphs.specs.Parts.{Marked, Joined, Drawn};
-
-// How many words the table of n unknowns has.
-pub fn size(n: u64) -> usize
-    requires { ⌜ (1 ≤ n) × (n ≤ 20) ⌝ }
-    ensures { λ r. ⌜ (r ≡ 2 * countOf n) × (r ≤ 462) ⌝ }
-{
-    let k = n as usize;
-    2 * (1 + 2 * k + k * (k - 1) / 2)
-}
-
-// The number of the product of unknowns i and j.
-fn index(n: usize, i: usize, j: usize) -> usize
-    requires { ⌜ (n ≤ 20) × (i ≤ j) × (j < n) ⌝ }
-    ensures { λ r. ⌜ (r ≡ indexOf n i j) × (r < countOf n) ⌝ }
-{
-    1 + n + (i * n - i * (i + 1) / 2) + j
-}
 
 // Every word becomes 0.
 fn clear(table: &mut [u64])

@@ -1,6 +1,5 @@
 // The reader of graph files: a text becomes a coefficient table with one equation for each edge.
 // Contracts cite specs/Lines (what a line is), specs/Reading (what a text means), specs/Equations and specs/Answers.
-use crate::equations::size;
 use crate::equations::write;
 use crate::reading::Finding;
 use crate::reading::read_lines;
@@ -78,7 +77,7 @@ pub fn read(text: &[u8], words: &mut [u64]) -> ReadAnswer
         Finding::Fine => {
             let n = graph.vertices;
             let m = graph.count;
-            let used = size(n);
+            let used = tables::words(n);
             write(&mut words[..used], graph);
             ReadAnswer::Graph { n, m }
         }

@@ -16,7 +16,9 @@ pub use evaluation::value_at;
 pub use formulas::coefficients;
 pub use formulas::differences;
 pub use monomials::entry;
+pub use monomials::index;
 pub use monomials::vector;
+pub use monomials::words;
 pub use rows::pack;
 
 // The value of each equation at a point, or why there is none.

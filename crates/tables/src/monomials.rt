@@ -14,6 +14,14 @@ pub fn count(n: usize) -> usize
     1 + 2 * n + n * (n - 1) / 2
 }
 
+// How many words a table of n unknowns has.
+pub fn words(n: u64) -> usize
+    requires { ⌜ (1 ≤ n) × (n ≤ 20) ⌝ }
+    ensures { λ r. ⌜ (r ≡ 2 * countOf n) × (r ≤ 462) ⌝ }
+{
+    2 * count(n as usize)
+}
+
 // The number of the product of unknowns i and j.
 pub fn index(n: usize, i: usize, j: usize) -> usize
     requires { ⌜ (n ≤ 20) × (i ≤ j) × (j < n) ⌝ }

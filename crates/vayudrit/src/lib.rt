@@ -34,8 +34,7 @@ fn table_bytes(n: u64) -> usize
     requires { ⌜ (1 ≤ n) × (n ≤ 20) ⌝ }
     ensures { λ r. ⌜ r ≡ 16 * countOf n ⌝ }
 {
-    let k = n as usize;
-    16 * (1 + 2 * k + k * (k - 1) / 2)
+    8 * tables::words(n)
 }
 
 // Refusals 1 and 2 over all arguments, given how many bytes each has.

@@ -36,8 +36,8 @@ enum-known-finding c = search needs
 enum-told : tie.Need-enum-told
 enum-told c = search needs
 
-size-requires : tie.Need-size-requires
-size-requires c κs =
+words-requires : tie.Need-words-requires
+words-requires c κs =
     let s = c .before .before .before .read-lines .result in
     let d = found-drawn (c .before .before .before .before .before .before .before .before .args .text .now) (s .finding) (s .line) (s .graph .vertices) (edgesOf (s .graph)) (c .before .before .before .read-lines .ensures) (c .enum-told .given .1) in
     (d .least, d .most)
@@ -46,13 +46,13 @@ slice-relend-prefix-write : tie.Need-slice-relend-prefix-write
 slice-relend-prefix-write c = search needs
 
 slice-aggregate-write : tie.Need-slice-aggregate-write
-slice-aggregate-write c = sym (length-take-le (c .before .size .result) (c .before .before .before .before .before .before .before .before .before .before .args .words .now) (omega (arith, c .before .size .ensures .1, c .before .before .before .before .before .before .if2 .left)))
+slice-aggregate-write c = sym (length-take-le (c .before .words .result) (c .before .before .before .before .before .before .before .before .before .before .args .words .now) (omega (arith, c .before .words .ensures .1, c .before .before .before .before .before .before .if2 .left)))
 
 write-requires : tie.Need-write-requires
 write-requires c κs =
     let s = c .before .before .before .before .before .read-lines .result in
     let d = found-drawn (c .before .before .before .before .before .before .before .before .before .before .args .text .now) (s .finding) (s .line) (s .graph .vertices) (edgesOf (s .graph)) (c .before .before .before .before .before .read-lines .ensures) (c .before .before .enum-told .given .1) in
-    (length-take-le (c .before .size .result) (c .before .before .before .before .before .before .before .before .before .before .args .words .now) (omega (arith, c .before .size .ensures .1, c .before .before .before .before .before .before .if2 .left)) ∙ c .before .size .ensures .0, d)
+    (length-take-le (c .before .words .result) (c .before .before .before .before .before .before .before .before .before .before .args .words .now) (omega (arith, c .before .words .ensures .1, c .before .before .before .before .before .before .if2 .left)) ∙ c .before .words .ensures .0, d)
 
 returns-3 : tie.Need-returns-3
 returns-3 c =
@@ -72,7 +72,7 @@ returns-4 c =
     let w = a .words .now in
     let s = c .before .before .before .before .before .before .before .before .read-lines .result in
     let g = s .graph in
-    answer-graph (outcomeOf t (length w)) (g .vertices) (g .count) (c .before .before .before .before .size .result) (edgesOf g) (c .before .before .write .last .0) w (outcome-lines t (length w) (c .before .before .before .before .before .before .before .before .before .before .if1 .left) (c .before .before .before .before .before .before .before .before .before .if2 .left) ∙ sym (c .before .before .before .before .before .before .before .before .read-lines .ensures) ∙ ap (λ (f : Finding). foundOf f (s .line) (g .vertices) (edgesOf g)) (c .before .before .before .before .before .enum-told .given .1)) (length-ends (g .count) (g .one) (g .other)) (c .before .before .write .ensures) (c .before .before .before .before .size .ensures .0)
+    answer-graph (outcomeOf t (length w)) (g .vertices) (g .count) (c .before .before .before .before .words .result) (edgesOf g) (c .before .before .write .last .0) w (outcome-lines t (length w) (c .before .before .before .before .before .before .before .before .before .before .if1 .left) (c .before .before .before .before .before .before .before .before .before .if2 .left) ∙ sym (c .before .before .before .before .before .before .before .before .read-lines .ensures) ∙ ap (λ (f : Finding). foundOf f (s .line) (g .vertices) (edgesOf g)) (c .before .before .before .before .before .enum-told .given .1)) (length-ends (g .count) (g .one) (g .other)) (c .before .before .write .ensures) (c .before .before .before .before .words .ensures .0)
 
 pub read-spec : {M : Type 1} → statement M
 read-spec =
@@ -83,7 +83,7 @@ read-spec =
     read-lines-requires
     enum-known-finding
     enum-told
-    size-requires
+    words-requires
     slice-relend-prefix-write
     slice-aggregate-write
     write-requires
