@@ -2,16 +2,19 @@
 use mathlib.Core.Path.{_≡_, refl, sym, ap, ap₂, _∙_}
 use mathlib.Core.Bool.{Bool, true, false}
 use mathlib.Core.List.{List, [], _∷_}
-use Prim.Native.Nat.{ℕ, zero, suc, _+_, _-_, _≤_, _<_}
+use Prim.Native.Nat.{ℕ, zero, suc, _+_, _-_, _*_, _/_, _≤_, _<_}
 use native.Mathlib.Omega.{arith}
 use lib.ListN.{length, getD, set, length-set}
 use lib.Seq.{getD-set-same, getD-set-other, set-set, set-comm}
 use Rattle.trits.specs.declared.Vector.{Vector}
 use Rattle.trits.specs.Words.{isZero}
 use Rattle.gray.specs.Positions.{positions}
+use Rattle.gray.specs.Numbers.{number, pointOf}
+use Rattle.gray.proofs.MapLaw.{point-lt, point-next-is}
 use Rattle.walks.specs.Walk.{stepOf, iterate}
 use Rattle.walk.specs.Step.{State, push, lift, bump, moveOf, noteBy, walkBy, foundOf, listOf}
 use Rattle.walk.specs.Parts.{turnedIn}
+use Rattle.walk.proofs.MoveLaw.{two, end-small}
 use Rattle.walk.proofs.SearchLaw.{step-near}
 
 -- a state whose entries from a on are turned into f of them
@@ -123,6 +126,33 @@ module _ (f : ℕ → ℕ) (a : ℕ) where
         let n = step-near (λ p. p) T s in
         ap (iterate 3 (walkBy f T) k) (step-turned s h (omega arith))
         ∙ walk-turned k u (omega (arith, n .more)) (omega (arith, n .found, n .list))
+
+-- the point of a place: three digits of its own, and the rest from the number of its block of 27
+pub point27 : (n p : ℕ) → 3 ≤ n → pointOf 3 n p ≡ pointOf 3 3 p + 27 * pointOf 3 (n - 3) (p / 27)
+unfolding pointOf number
+point27 zero p h = absurd (omega arith)
+point27 (suc zero) p h = absurd (omega arith)
+point27 (suc (suc zero)) p h = absurd (omega arith)
+point27 (suc (suc (suc n))) p h =
+    let k : n ≡ suc (suc (suc n)) - 3 = omega arith in
+    let e : p / 3 / 3 / 3 ≡ p / 27 = omega arith in
+    join _ _ _ _ _ _ _ _ _ _ _
+    (point-next-is 3 two (suc (suc n)) p) (point-next-is 3 two (suc n) (p / 3)) (point-next-is 3 two n (p / 3 / 3)) (ap₂ (pointOf 3) k e)
+    (point-next-is 3 two 2 p) (point-next-is 3 two 1 (p / 3)) (point-next-is 3 two 0 (p / 3 / 3)) (none (p / 3 / 3 / 3))
+  where
+    join : (a b c d a' b' c' d' x y z : ℕ) {r : ℕ} → a ≡ x + 3 * b → b ≡ y + 3 * c → c ≡ z + 3 * d → d ≡ r → a' ≡ x + 3 * b' → b' ≡ y + 3 * c' → c' ≡ z + 3 * d' → d' ≡ 0 → a ≡ a' + 27 * r
+    join a b c d a' b' c' d' x y z {r} e f g h e' f' g' h' = omega arith
+
+    none : (y : ℕ) → pointOf 3 0 y ≡ 0
+    none y = refl
+
+pub near-is : (n p top high low : ℕ) → 3 ≤ n → p / 27 ≡ top → high ≡ 27 * pointOf 3 (n - 3) top → low ≡ pointOf 3 3 p → low + high ≡ pointOf 3 n p
+near-is n p top high low h e f g =
+    ap₂ (λ (x y : ℕ). x + y) g (f ∙ ap (λ (x : ℕ). 27 * pointOf 3 (n - 3) x) (sym e)) ∙ sym (point27 n p h)
+
+-- the numbers of points are small
+pub point-small : (n p : ℕ) → n ≤ 20 → pointOf 3 n p < 3486784401
+point-small n p h = omega (arith, point-lt 3 two n p, end-small n h)
 
 -- k places, with room for a zero at each: the places listed at last are turned, and nothing before them
 pub entries-turned : (f : ℕ → ℕ) (T : ℕ → ℕ → Vector) (k : ℕ) (s : State) → s .found + k ≤ length (s .list)

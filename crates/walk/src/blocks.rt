@@ -77,7 +77,7 @@ fn block27(
     y.value = next;
     y.additions = h.additions;
     let part = big(y, t0h, t1h, t2h, top, list);
-    points(n, list, x.found, part.found);
+    points(n, list, place, x.found, part.found);
     Turned { part, slot: up }
 }
 

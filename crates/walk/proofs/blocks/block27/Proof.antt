@@ -73,8 +73,12 @@ points-requires : tie.Need-points-requires
 points-requires c κs =
     let r = c .before .before .before .big in
     let s = c .before .before .before .before .before .before .before .before .before .before .before .before .before .before in
+    let a = s .args in
     let z = s .pre .0 in
-    (z .small, omega (arith, r .ensures .1 .found, r .kept, s .pre .1 .1 .1 .0))
+    let q = s .pre .1 .1 .0 in
+    let h : lowestOf 3 (a .x .place) < a .n = of-lt 3 two (a .n) (a .x .place) (q .0) (omega (arith, q)) in
+    let t : 3 ≤ lowestOf 3 (a .x .place) = low27 (a .x .place) (q .0) (q .1) in
+    (omega arith, z .small, omega (arith, r .ensures .1 .found, r .kept, s .pre .1 .1 .1 .0))
 
 -- src/blocks.rt:51:1
 same-length : tie.Need-same-length
