@@ -1,7 +1,11 @@
 // The whole search of one graph file, a text at a time: what `begin` and each `next` leave in the text, joined, is the program's output.
 use crate::text;
+use gray::Place;
 use graphs::ReadAnswer;
+use search::Answer;
 use search::Record;
+use walks::Report;
+use walks::Stop;
 
 // Between two calls: the walk's record, what the calls so far did, and how many bytes of the text are to be written.
 pub struct Session {
@@ -13,4 +17,136 @@ pub struct Session {
     pub found: u64,
     pub used: usize,
     pub open: bool,
+}
+
+// At most so many points a call, so that progress shows: 2^26.
+const BUDGET: u64 = 67108864;
+
+// How many words a table of n unknowns has.
+pub fn table_words(n: u64) -> usize
+{
+    let k = n as usize;
+    2 * (1 + 2 * k + k * (k - 1) / 2)
+}
+
+// The record that goes with no walk.
+fn no_record() -> Record
+{
+    let none = trits::Vector { high: 0, low: 0 };
+    Record {
+        n: 0,
+        m: 0,
+        place: Place(0),
+        value: none,
+        slots: [none; 20],
+    }
+}
+
+// A refusal: its line, and nothing after it.
+fn refused(number: u64, line: u64, text: &mut [u8]) -> Session
+{
+    let used = text::put_refusal(text, number, line);
+    Session {
+        n: 0,
+        m: 0,
+        record: no_record(),
+        points: 0,
+        additions: 0,
+        found: 0,
+        used,
+        open: false,
+    }
+}
+
+// The system of a graph that was read: its table of differences, its walk at place 0, and the first line.
+fn start(n: u64, m: u64, words: &[u64], table: &mut [u64], text: &mut [u8]) -> Session
+{
+    tables::differences(n, m, words, table);
+    let o = search::open(n, m, table, Place(0));
+    let record = o.record;
+    let used = text::put_head(text, n, m);
+    Session {
+        n,
+        m,
+        record,
+        points: 0,
+        additions: 0,
+        found: 0,
+        used,
+        open: true,
+    }
+}
+
+// Reads the input. The text has the first line, or the refusal; the table of a graph has table_words of its n.
+pub fn begin(input: &[u8], words: &mut [u64], table: &mut [u64], text: &mut [u8]) -> Session
+{
+    let answer = graphs::read(input, words);
+    match answer {
+        ReadAnswer::Refused { why, line } => {
+            let number = graphs::fault_number(why);
+            refused(number, line, text)
+        }
+        ReadAnswer::Graph { n, m } => {
+            let size = table_words(n);
+            start(n, m, &words[..size], &mut table[..size], text)
+        }
+    }
+}
+
+// Whether the walk is over.
+fn ended(stop: Stop) -> bool
+{
+    match stop {
+        Stop::Ended => true,
+        Stop::Full(_) => false,
+        Stop::Spent(_) => false,
+    }
+}
+
+// What a call did is added and its points are listed; after the last call the totals too.
+fn tell(s: Session, record: Record, report: Report, points: &[u64], text: &mut [u8]) -> Session
+{
+    let stop = report.stop;
+    let additions = s.additions + report.additions;
+    let found = s.found + report.found;
+    let place = s.points + report.points;
+    let over = ended(stop);
+    let used = text::put_layouts(text, s.n, points);
+    let last = if over { text::put_totals(text, used, place, additions, found) } else { used };
+    Session {
+        n: s.n,
+        m: s.m,
+        record,
+        points: place,
+        additions,
+        found,
+        used: last,
+        open: !over,
+    }
+}
+
+// One call of the search: the text has a line for each layout that it found, and after the last call the totals.
+pub fn next(s: Session, table: &[u64], list: &mut [u64], text: &mut [u8]) -> Session
+{
+    let r = s.record;
+    let o = search::search(s.n, s.m, table, r, BUDGET, list);
+    let answer = o.answer;
+    let record = o.record;
+    match answer {
+        Answer::Ran(report) => {
+            let k = report.found as usize;
+            tell(s, record, report, &list[..k], text)
+        }
+        // No call on a session's own record is refused.
+        Answer::Refused(_) => Session {
+            n: s.n,
+            m: s.m,
+            record,
+            points: s.points,
+            additions: s.additions,
+            found: s.found,
+            used: 0,
+            open: false,
+        },
+    }
 }

@@ -1,0 +1,102 @@
+// Reads a graph file from standard input and writes all its layouts to standard output.
+use crate::session::Session;
+use libc::STDERR_FILENO;
+use libc::STDIN_FILENO;
+use libc::STDOUT_FILENO;
+
+mod session;
+mod text;
+
+// What standard input gave: so many bytes of it, or a read that failed.
+enum Input {
+    Bytes(usize),
+    Failed,
+}
+
+// Reads until the buffer is full or the input ends.
+fn read_input(buf: &mut [u8]) -> Input {
+    let mut done: usize = 0;
+    while done < buf.len() {
+        let rest = &mut buf[done..];
+        let got = libc::read(STDIN_FILENO, rest);
+        if got < 0 {
+            return Input::Failed;
+        }
+        let more = io::count(got, rest);
+        if more == 0 {
+            return Input::Bytes(done);
+        }
+        done += more;
+    }
+    Input::Bytes(done)
+}
+
+// Whether the line of progress is to be written anew: once every 2^24 points.
+fn due(before: u64, now: u64) -> bool {
+    before / 16777216 != now / 16777216
+}
+
+// One line on the terminal, written over itself.
+fn show(s: Session) {
+    io::write_all(STDERR_FILENO, b"\rpoints ");
+    io::print_decimal(STDERR_FILENO, s.points);
+    io::write_all(STDERR_FILENO, b" of ");
+    io::print_decimal(STDERR_FILENO, gray::power(s.n));
+    io::write_all(STDERR_FILENO, b" found ");
+    io::print_decimal(STDERR_FILENO, s.found);
+}
+
+// The calls after the first text; answers whether all of them could be written.
+fn drive(begun: Session, table: &[u64], list: &mut [u64], text: &mut [u8], terminal: bool) -> bool {
+    let mut s = begun;
+    while s.open {
+        let before = s.points;
+        s = session::next(s, table, list, text);
+        let used = s.used;
+        if !io::write_all(STDOUT_FILENO, &text[..used]) {
+            return false;
+        }
+        if terminal {
+            if due(before, s.points) {
+                show(s);
+            }
+        }
+    }
+    true
+}
+
+fn run(input: &[u8], words: &mut [u64], table: &mut [u64], list: &mut [u64], text: &mut [u8]) -> bool {
+    let s = session::begin(input, words, table, text);
+    let used = s.used;
+    if !io::write_all(STDOUT_FILENO, &text[..used]) {
+        return false;
+    }
+    if !s.open {
+        return true;
+    }
+    let size = session::table_words(s.n);
+    let terminal = libc::isatty(STDERR_FILENO) == 1;
+    let all = drive(s, &table[..size], list, text, terminal);
+    if terminal {
+        io::write_all(STDERR_FILENO, b"\r\x1b[K");
+    }
+    all
+}
+
+fn main() {
+    let mut buf = [0u8; 32769];
+    let mut words = [0u64; 462];
+    let mut table = [0u64; 462];
+    let mut list = [0u64; 1024];
+    let mut text = [0u8; 65536];
+    match read_input(&mut buf) {
+        Input::Failed => {
+            io::write_all(STDERR_FILENO, b"layouts: standard input could not be read\n");
+        }
+        Input::Bytes(k) => {
+            if !run(&buf[..k], &mut words, &mut table, &mut list, &mut text) {
+                io::write_all(STDERR_FILENO, b"layouts: standard output could not be written\n");
+            }
+        }
+    }
+}
