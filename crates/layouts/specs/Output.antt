@@ -2,14 +2,15 @@
 use mathlib.Core.Path.{_≡_}
 use mathlib.Core.Bool.{Bool, true, false, not, _&&_}
 use mathlib.Core.List.{List, [], _∷_, _++_}
-use Prim.Native.Nat.{ℕ, zero, suc, _+_, _-_, _*_, _^_, _≤_}
+use Prim.Native.Nat.{ℕ, zero, suc, _+_, _-_, _*_, _^_, _≤_, _<_}
 use lib.Dec.{eqb}
-use lib.ListN.{length}
+use lib.ListN.{length, take}
 use Rattle.refusals.specs.declared.Verdict.the-variants.{Done}
 use Rattle.gray.specs.Numbers.{pointDigit, pointOf}
+use Rattle.tables.specs.Monomials.{countOf}
 use Rattle.tables.specs.Answers.{checkedOf}
 use Rattle.graphs.specs.Reading.{Ends, Outcome, graph, refused, outcomeOf, faultNumber}
-use Rattle.walks.specs.Calls.{Trail, zerosIn, costIn}
+use Rattle.walks.specs.Calls.{Trail, listed, zerosIn, costIn}
 use Rattle.search.specs.Search.{trailOf}
 use Rattle.search.specs.Opened.{openedAt}
 use Rattle.layouts.specs.declared.session.Session.{Session}
@@ -21,14 +22,10 @@ unfoldable pub differAt : List Ends → ℕ → Bool
 differAt [] p = true
 differAt (x ∷ es) p = not (eqb (pointDigit 3 p (x .one - 1)) (pointDigit 3 p (x .other - 1))) && differAt es p
 
-abbrev pub listedIf : Bool → ℕ → List ℕ → List ℕ
-listedIf true x l = x ∷ l
-listedIf false x l = l
-
 -- the layouts among k places from p: the points at which the ends of every edge differ, in Gray order
 unfoldable pub layoutsIn : ℕ → List Ends → ℕ → ℕ → List ℕ
 layoutsIn n es p zero = []
-layoutsIn n es p (suc k) = listedIf (differAt es p) (pointOf 3 n p) (layoutsIn n es (suc p) k)
+layoutsIn n es p (suc k) = listed (differAt es p) (pointOf 3 n p) (layoutsIn n es (suc p) k)
 
 -- the whole output: the head, a line for every layout and the totals of the whole walk; or the refusal and its line
 abbrev pub writtenFor : Outcome → List ℕ
@@ -61,3 +58,18 @@ leftIf false l = []
 
 unfoldable pub leftOf : List ℕ → Session → List ℕ
 leftOf t s = leftIf (s .open) (leftFrom (s .n) (trailOf (s .n) (s .m) t) (s .points))
+
+-- after reading: what is to be written first, and the rest, are the whole output
+pub record Begun (input table b : List ℕ) (r : Session) : Type 0 where
+  pub output : outputOf input ≡ take (r .used) b ++ leftOf (take (2 * countOf (r .n)) table) r
+  pub standing : r .open ≡ true → Standing (take (2 * countOf (r .n)) table) r
+  pub used : r .used ≤ length b
+
+-- after a call: what is to be written next, and the rest, are what was left; while the session is open it goes on
+pub record Went (t : List ℕ) (s : Session) (b : List ℕ) (r : Session) : Type 0 where
+  pub output : leftOf t s ≡ take (r .used) b ++ leftOf t r
+  pub standing : Standing t r
+  pub unknowns : r .n ≡ s .n
+  pub equations : r .m ≡ s .m
+  pub on : r .open ≡ true → s .points < r .points
+  pub used : r .used ≤ length b

@@ -6,6 +6,13 @@ use search::Answer;
 use search::Record;
 use walks::Report;
 use walks::Stop;
+ghost use mathlib.Core.Path.{_≡_};
+ghost use mathlib.Core.Bool.{true};
+ghost use Prim.Native.Nat.{_+_, _*_, _≤_};
+ghost use lib.ListN.{length};
+ghost use Rattle.tables.specs.Monomials.{countOf};
+ghost use Rattle.layouts.specs.Output.{Standing, Begun, Went};
+ghost use Rattle.layouts.specs.Parts.{Refuses, Startable, Started, isEnded, Tellable, Told};
 
 // Between two calls: the walk's record, what the calls so far did, and how many bytes of the text are to be written.
 pub struct Session {
@@ -24,6 +31,8 @@ const BUDGET: u64 = 67108864;
 
 // How many words a table of n unknowns has.
 pub fn table_words(n: u64) -> usize
+    requires { ⌜ (1 ≤ n) × (n ≤ 20) ⌝ }
+    ensures { λ r. ⌜ (r ≡ 2 * countOf n) × (r ≤ 462) ⌝ }
 {
     let k = n as usize;
     2 * (1 + 2 * k + k * (k - 1) / 2)
@@ -44,6 +53,8 @@ fn no_record() -> Record
 
 // A refusal: its line, and nothing after it.
 fn refused(number: u64, line: u64, text: &mut [u8]) -> Session
+    requires { ⌜ 55 ≤ length (now text) ⌝ }
+    ensures { λ r. ⌜ Refuses number line (now (text .exit)) r ⌝ }
 {
     let used = text::put_refusal(text, number, line);
     Session {
@@ -60,6 +71,8 @@ fn refused(number: u64, line: u64, text: &mut [u8]) -> Session
 
 // The system of a graph that was read: its table of differences, its walk at place 0, and the first line.
 fn start(n: u64, m: u64, words: &[u64], table: &mut [u64], text: &mut [u8]) -> Session
+    requires { ⌜ Startable n m (now words) (now table) × (51 ≤ length (now text)) ⌝ }
+    ensures { λ r. ⌜ Started n m (now (words .entry)) (now (table .exit)) (now (text .exit)) r ⌝ }
 {
     tables::differences(n, m, words, table);
     let o = search::open(n, m, table, Place(0));
@@ -79,6 +92,8 @@ fn start(n: u64, m: u64, words: &[u64], table: &mut [u64], text: &mut [u8]) -> S
 
 // Reads the input. The text has the first line, or the refusal; the table of a graph has table_words of its n.
 pub fn begin(input: &[u8], words: &mut [u64], table: &mut [u64], text: &mut [u8]) -> Session
+    requires { ⌜ (length (now words) ≡ 462) × (length (now table) ≡ 462) × (55 ≤ length (now text)) ⌝ }
+    ensures { λ r. ⌜ Begun (now (input .entry)) (now (table .exit)) (now (text .exit)) r ⌝ }
 {
     let answer = graphs::read(input, words);
     match answer {
@@ -95,6 +110,7 @@ pub fn begin(input: &[u8], words: &mut [u64], table: &mut [u64], text: &mut [u8]
 
 // Whether the walk is over.
 fn ended(stop: Stop) -> bool
+    ensures { λ r. ⌜ r ≡ isEnded stop ⌝ }
 {
     match stop {
         Stop::Ended => true,
@@ -105,6 +121,8 @@ fn ended(stop: Stop) -> bool
 
 // What a call did is added and its points are listed; after the last call the totals too.
 fn tell(s: Session, record: Record, report: Report, points: &[u64], text: &mut [u8]) -> Session
+    requires { ⌜ Tellable s report (now points) (now text) ⌝ }
+    ensures { λ r. ⌜ Told s «record» report (now (points .entry)) (now (text .exit)) r ⌝ }
 {
     let stop = report.stop;
     let additions = s.additions + report.additions;
@@ -112,7 +130,19 @@ fn tell(s: Session, record: Record, report: Report, points: &[u64], text: &mut [
     let place = s.points + report.points;
     let over = ended(stop);
     let used = text::put_layouts(text, s.n, points);
-    let last = if over { text::put_totals(text, used, place, additions, found) } else { used };
+    if !over {
+        return Session {
+            n: s.n,
+            m: s.m,
+            record,
+            points: place,
+            additions,
+            found,
+            used,
+            open: true,
+        };
+    }
+    let last = text::put_totals(text, used, place, additions, found);
     Session {
         n: s.n,
         m: s.m,
@@ -121,12 +151,14 @@ fn tell(s: Session, record: Record, report: Report, points: &[u64], text: &mut [
         additions,
         found,
         used: last,
-        open: !over,
+        open: false,
     }
 }
 
 // One call of the search: the text has a line for each layout that it found, and after the last call the totals.
 pub fn next(s: Session, table: &[u64], list: &mut [u64], text: &mut [u8]) -> Session
+    requires { ⌜ Standing (now table) s × (s .open ≡ true) × (1 ≤ length (now list)) × (63 * length (now list) + 92 ≤ length (now text)) ⌝ }
+    ensures { λ r. ⌜ Went (now (table .entry)) s (now (text .exit)) r ⌝ }
 {
     let r = s.record;
     let o = search::search(s.n, s.m, table, r, BUDGET, list);

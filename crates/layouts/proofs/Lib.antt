@@ -1,0 +1,3 @@
+pub mod GraphLaw
+pub mod NextLaw
+pub mod BeginLaw
