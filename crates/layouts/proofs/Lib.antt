@@ -1,3 +1,4 @@
 pub mod GraphLaw
 pub mod NextLaw
 pub mod BeginLaw
+pub mod TellLaw

@@ -1,7 +1,7 @@
 // The whole search of one graph file, a text at a time: what `begin` and each `next` leave in the text, joined, is the program's output.
 use crate::text;
-use gray::Place;
 use graphs::ReadAnswer;
+use gray::Place;
 use search::Answer;
 use search::Record;
 use walks::Report;
@@ -39,8 +39,7 @@ pub fn table_words(n: u64) -> usize
 }
 
 // The record that goes with no walk.
-fn no_record() -> Record
-{
+fn no_record() -> Record {
     let none = trits::Vector { high: 0, low: 0 };
     Record {
         n: 0,
