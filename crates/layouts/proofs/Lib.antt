@@ -2,3 +2,4 @@ pub mod GraphLaw
 pub mod NextLaw
 pub mod BeginLaw
 pub mod TellLaw
+pub mod DriveLaw

@@ -73,3 +73,8 @@ pub record Went (t : List ℕ) (s : Session) (b : List ℕ) (r : Session) : Type
   pub equations : r .m ≡ s .m
   pub on : r .open ≡ true → s .points < r .points
   pub used : r .used ≤ length b
+
+-- a row of calls from s to r, and what they leave to be written, joined in order
+pub data Calls (t : List ℕ) : Session → List ℕ → Session → Type 0 where
+  none : {s : Session} → Calls t s [] s
+  more : {s r u : Session} {b l : List ℕ} → Went t s b r → Calls t r l u → Calls t s (take (r .used) b ++ l) u

@@ -10,6 +10,8 @@ use Rattle.walks.specs.declared.Stop.{Stop}
 use Rattle.walks.specs.declared.Stop.the-variants.{Ended, Full, Spent}
 use Rattle.walks.specs.declared.Report.{Report}
 use Rattle.search.specs.declared.Record.{Record}
+use Rattle.layouts.specs.declared.Input.{Input}
+use Rattle.layouts.specs.declared.Input.the-variants.{Bytes, Failed}
 use Rattle.layouts.specs.declared.session.Session.{Session}
 use Rattle.layouts.specs.Text.{layoutLines, headLine, totalsLine, refusalLine}
 use Rattle.layouts.specs.Output.{Standing, leftIf}
@@ -65,3 +67,8 @@ pub record Told (s : Session) (o : Record) (w : Report) (l b : List ℕ) (r : Se
   pub going : r .open ≡ not (isEnded (w .stop))
   pub used : r .used ≤ length b
   pub bytes : take (r .used) b ≡ layoutLines (s .n) l ++ leftIf (isEnded (w .stop)) (totalsLine (r .points) (r .additions) (r .found))
+
+-- how many bytes of the input stand in the buffer
+abbrev pub bytesOf : Input → ℕ
+bytesOf (Bytes k) = k
+bytesOf Failed = 0

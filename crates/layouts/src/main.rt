@@ -3,6 +3,11 @@ use crate::session::Session;
 use libc::STDERR_FILENO;
 use libc::STDIN_FILENO;
 use libc::STDOUT_FILENO;
+ghost use mathlib.Core.Path.{_≡_};
+ghost use Prim.Native.Nat.{_+_, _*_, _≤_};
+ghost use lib.ListN.{length};
+ghost use Rattle.layouts.specs.Output.{Standing};
+ghost use Rattle.layouts.specs.Parts.{bytesOf};
 
 mod session;
 mod text;
@@ -14,7 +19,9 @@ enum Input {
 }
 
 // Reads until the buffer is full or the input ends.
-fn read_input(buf: &mut [u8]) -> Input {
+fn read_input(buf: &mut [u8]) -> Input
+    ensures { λ r. ⌜ bytesOf r ≤ length (now (buf .exit)) ⌝ }
+{
     let mut done: usize = 0;
     while done < buf.len() {
         let rest = &mut buf[done..];
@@ -46,8 +53,20 @@ fn show(s: Session) {
     io::print_decimal(STDERR_FILENO, s.found);
 }
 
-// The calls after the first text; answers whether all of them could be written.
-fn drive(begun: Session, table: &[u64], list: &mut [u64], text: &mut [u8], terminal: bool) -> bool {
+// Progress on the terminal, where there is one and it is due.
+fn progress(terminal: bool, before: u64, s: Session) {
+    if !terminal {
+        return;
+    }
+    if due(before, s.points) {
+        show(s);
+    }
+}
+
+// The calls after the first text, each written before the next; answers whether all could be written.
+fn drive(begun: Session, table: &[u64], list: &mut [u64], text: &mut [u8], terminal: bool) -> bool
+    requires { ⌜ Standing (now table) begun × (1 ≤ length (now list)) × (63 * length (now list) + 92 ≤ length (now text)) ⌝ }
+{
     let mut s = begun;
     while s.open {
         let before = s.points;
@@ -56,16 +75,33 @@ fn drive(begun: Session, table: &[u64], list: &mut [u64], text: &mut [u8], termi
         if !io::write_all(STDOUT_FILENO, &text[..used]) {
             return false;
         }
-        if terminal {
-            if due(before, s.points) {
-                show(s);
-            }
-        }
+        progress(terminal, before, s);
     }
     true
 }
 
-fn run(input: &[u8], words: &mut [u64], table: &mut [u64], list: &mut [u64], text: &mut [u8]) -> bool {
+// The walk of a graph that was read, with progress on the terminal and the terminal's line cleared after it.
+fn walk_graph(s: Session, table: &[u64], list: &mut [u64], text: &mut [u8]) -> bool
+    requires { ⌜ Standing (now table) s × (1 ≤ length (now list)) × (63 * length (now list) + 92 ≤ length (now text)) ⌝ }
+{
+    let terminal = libc::isatty(STDERR_FILENO) == 1;
+    let all = drive(s, table, list, text, terminal);
+    if terminal {
+        io::write_all(STDERR_FILENO, b"\r\x1b[K");
+    }
+    all
+}
+
+// The whole output for an input; answers whether it could be written.
+fn run(
+    input: &[u8],
+    words: &mut [u64],
+    table: &mut [u64],
+    list: &mut [u64],
+    text: &mut [u8],
+) -> bool
+    requires { ⌜ (length (now words) ≡ 462) × (length (now table) ≡ 462) × (length (now list) ≡ 1024) × (length (now text) ≡ 65536) ⌝ }
+{
     let s = session::begin(input, words, table, text);
     let used = s.used;
     if !io::write_all(STDOUT_FILENO, &text[..used]) {
@@ -75,12 +111,7 @@ fn run(input: &[u8], words: &mut [u64], table: &mut [u64], list: &mut [u64], tex
         return true;
     }
     let size = session::table_words(s.n);
-    let terminal = libc::isatty(STDERR_FILENO) == 1;
-    let all = drive(s, &table[..size], list, text, terminal);
-    if terminal {
-        io::write_all(STDERR_FILENO, b"\r\x1b[K");
-    }
-    all
+    walk_graph(s, &table[..size], list, text)
 }
 
 fn main() {
@@ -91,11 +122,17 @@ fn main() {
     let mut text = [0u8; 65536];
     match read_input(&mut buf) {
         Input::Failed => {
-            io::write_all(STDERR_FILENO, b"layouts: standard input could not be read\n");
+            io::write_all(
+                STDERR_FILENO,
+                b"layouts: standard input could not be read\n",
+            );
         }
         Input::Bytes(k) => {
             if !run(&buf[..k], &mut words, &mut table, &mut list, &mut text) {
-                io::write_all(STDERR_FILENO, b"layouts: standard output could not be written\n");
+                io::write_all(
+                    STDERR_FILENO,
+                    b"layouts: standard output could not be written\n",
+                );
             }
         }
     }
