@@ -12,6 +12,9 @@ ghost use Rattle.layouts.specs.Parts.{bytesOf};
 mod session;
 mod text;
 
+// At most so many points a call, so that progress shows: 2^26.
+const BUDGET: u64 = 67108864;
+
 // What standard input gave: so many bytes of it, or a read that failed.
 enum Input {
     Bytes(usize),
@@ -70,7 +73,7 @@ fn drive(begun: Session, table: &[u64], list: &mut [u64], text: &mut [u8], termi
     let mut s = begun;
     while s.open {
         let before = s.points;
-        s = session::next(s, table, list, text);
+        s = session::next(s, table, BUDGET, list, text);
         let used = s.used;
         if !io::write_all(STDOUT_FILENO, &text[..used]) {
             return false;

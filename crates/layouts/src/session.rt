@@ -26,9 +26,6 @@ pub struct Session {
     pub open: bool,
 }
 
-// At most so many points a call, so that progress shows: 2^26.
-const BUDGET: u64 = 67108864;
-
 // How many words a table of n unknowns has.
 pub fn table_words(n: u64) -> usize
     requires { ⌜ (1 ≤ n) × (n ≤ 20) ⌝ }
@@ -75,12 +72,12 @@ fn start(n: u64, m: u64, words: &[u64], table: &mut [u64], text: &mut [u8]) -> S
 {
     tables::differences(n, m, words, table);
     let o = search::open(n, m, table, Place(0));
-    let record = o.record;
+    let first = o.record;
     let used = text::put_head(text, n, m);
     Session {
         n,
         m,
-        record,
+        record: first,
         points: 0,
         additions: 0,
         found: 0,
@@ -154,13 +151,13 @@ fn tell(s: Session, record: Record, report: Report, points: &[u64], text: &mut [
     }
 }
 
-// One call of the search: the text has a line for each layout that it found, and after the last call the totals.
-pub fn next(s: Session, table: &[u64], list: &mut [u64], text: &mut [u8]) -> Session
-    requires { ⌜ Standing (now table) s × (s .open ≡ true) × (1 ≤ length (now list)) × (63 * length (now list) + 92 ≤ length (now text)) ⌝ }
+// One call of the search, of at most budget points: the text has a line for each layout that it found, and after the last call the totals.
+pub fn next(s: Session, table: &[u64], budget: u64, list: &mut [u64], text: &mut [u8]) -> Session
+    requires { ⌜ Standing (now table) s × (s .open ≡ true) × (1 ≤ budget) × (1 ≤ length (now list)) × (63 * length (now list) + 92 ≤ length (now text)) ⌝ }
     ensures { λ r. ⌜ Went (now (table .entry)) s (now (text .exit)) r ⌝ }
 {
     let r = s.record;
-    let o = search::search(s.n, s.m, table, r, BUDGET, list);
+    let o = search::search(s.n, s.m, table, r, budget, list);
     let answer = o.answer;
     let record = o.record;
     match answer {

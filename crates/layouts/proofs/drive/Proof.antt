@@ -36,7 +36,7 @@ slice-reshare-prefix-write-all c = search needs
 
 -- src/main.rt:75:42
 slice-aggregate-write-all : tie.Need-slice-aggregate-write-all Inv-loop μ-loop
-slice-aggregate-write-all c = sym (length-take-le (c .before .before .before .before .before .next .result .used) (c .before .before .before .before .before .next .last .1 .1 .1 .0) (c .before .before .before .before .before .next .ensures .used))
+slice-aggregate-write-all c = sym (length-take-le (c .before .before .before .before .before .next .result .used) (c .before .before .before .before .before .next .last .1 .1 .1 .1 .0) (c .before .before .before .before .before .next .ensures .used))
 
 -- src/main.rt:75:13
 write-all-requires : tie.Need-write-all-requires Inv-loop μ-loop
@@ -60,7 +60,7 @@ progress-requires c κs = search needs
 
 -- src/main.rt:71:5
 loop-less : tie.Need-loop-less Inv-loop μ-loop
-loop-less c = falls (c .before .before .before .before .before .before .before .before .before .before .before .before .before .before .before .before .args .table .now) (c .before .before .before .before .before .before .before .before .before .before .before .before .loop .s) (c .before .before .before .before .before .before .before .before .next .last .1 .1 .1 .0) (c .before .before .before .before .before .before .before .before .next .result) (c .before .before .before .before .before .before .before .before .before .before .before .loop-test .taken) (c .before .before .before .before .before .before .before .before .next .ensures)
+loop-less c = falls (c .before .before .before .before .before .before .before .before .before .before .before .before .before .before .before .before .args .table .now) (c .before .before .before .before .before .before .before .before .before .before .before .before .loop .s) (c .before .before .before .before .before .before .before .before .next .last .1 .1 .1 .1 .0) (c .before .before .before .before .before .before .before .before .next .result) (c .before .before .before .before .before .before .before .before .before .before .before .loop-test .taken) (c .before .before .before .before .before .before .before .before .next .ensures)
 
 -- src/main.rt:71:5
 loop-again : tie.Need-loop-again Inv-loop μ-loop

@@ -27,7 +27,7 @@ slice-reshare-prefix-tell c =
     let s = c .before .before .before .before .before .before .before .before .before .before .before .before in
     let a = s .args in
     let k = c .before .before .before .before .before .before .search in
-    answered (a .table .now) (a .s) (s .pre .0) 67108864 (a .list .now) (omega arith) (omega (arith, s .pre .2)) (k .result) _ (k .last .1 .1 .1 .1 .1 .0) (k .ensures .0) (k .ensures .1) (c .before .answer .given .1) .fits
+    answered (a .table .now) (a .s) (s .pre .0) (a .budget) (a .list .now) (omega (arith, s .pre .2)) (omega (arith, s .pre .3)) (k .result) _ (k .last .1 .1 .1 .1 .1 .0) (k .ensures .0) (k .ensures .1) (c .before .answer .given .1) .fits
 
 -- src/session.rt:170:37
 slice-aggregate-tell : tie.Need-slice-aggregate-tell
@@ -35,7 +35,7 @@ slice-aggregate-tell c =
     let s = c .before .before .before .before .before .before .before .before .before .before .before .before .before in
     let a = s .args in
     let k = c .before .before .before .before .before .before .before .search in
-    let i = answered (a .table .now) (a .s) (s .pre .0) 67108864 (a .list .now) (omega arith) (omega (arith, s .pre .2)) (k .result) _ (k .last .1 .1 .1 .1 .1 .0) (k .ensures .0) (k .ensures .1) (c .before .before .answer .given .1) in
+    let i = answered (a .table .now) (a .s) (s .pre .0) (a .budget) (a .list .now) (omega (arith, s .pre .2)) (omega (arith, s .pre .3)) (k .result) _ (k .last .1 .1 .1 .1 .1 .0) (k .ensures .0) (k .ensures .1) (c .before .before .answer .given .1) in
     sym (length-take-le _ (k .last .1 .1 .1 .1 .1 .0) (i .fits))
 
 -- src/session.rt:170:13
@@ -44,10 +44,10 @@ tell-requires c κs =
     let s = c .before .before .before .before .before .before .before .before .before .before .before .before .before .before in
     let a = s .args in
     let k = c .before .before .before .before .before .before .before .before .search in
-    let some : 0 < 67108864 = omega arith in
-    let room : 0 < length (a .list .now) = omega (arith, s .pre .2) in
-    let i = answered (a .table .now) (a .s) (s .pre .0) 67108864 (a .list .now) some room (k .result) _ (k .last .1 .1 .1 .1 .1 .0) (k .ensures .0) (k .ensures .1) (c .before .before .before .answer .given .1) in
-    tellable (a .table .now) (a .s) (s .pre .0) 67108864 (a .list .now) some room _ _ (k .last .1 .1 .1 .1 .1 .0) i (a .text .now) (s .pre .3)
+    let some : 0 < a .budget = omega (arith, s .pre .2) in
+    let room : 0 < length (a .list .now) = omega (arith, s .pre .3) in
+    let i = answered (a .table .now) (a .s) (s .pre .0) (a .budget) (a .list .now) some room (k .result) _ (k .last .1 .1 .1 .1 .1 .0) (k .ensures .0) (k .ensures .1) (c .before .before .before .answer .given .1) in
+    tellable (a .table .now) (a .s) (s .pre .0) (a .budget) (a .list .now) some room _ _ (k .last .1 .1 .1 .1 .1 .0) i (a .text .now) (s .pre .4)
 
 -- src/session.rt:173:31
 enum-told : tie.Need-enum-told
@@ -67,10 +67,10 @@ returns c =
     let s = c .before .before .before .before .before .before .before .before .before .before .before .before .before .before .before .before .before in
     let a = s .args in
     let k = c .before .before .before .before .before .before .before .before .before .before .before .search in
-    let some : 0 < 67108864 = omega arith in
-    let room : 0 < length (a .list .now) = omega (arith, s .pre .2) in
-    let i = answered (a .table .now) (a .s) (s .pre .0) 67108864 (a .list .now) some room (k .result) _ (k .last .1 .1 .1 .1 .1 .0) (k .ensures .0) (k .ensures .1) (c .before .before .before .before .before .before .answer .given .1) in
-    went (a .table .now) (a .s) (s .pre .0) 67108864 (a .list .now) some room _ _ (k .last .1 .1 .1 .1 .1 .0) i (c .before .before .tell .last .1 .1 .1 .1 .0) (c .before .before .tell .result) (c .before .before .tell .ensures) (s .pre .1)
+    let some : 0 < a .budget = omega (arith, s .pre .2) in
+    let room : 0 < length (a .list .now) = omega (arith, s .pre .3) in
+    let i = answered (a .table .now) (a .s) (s .pre .0) (a .budget) (a .list .now) some room (k .result) _ (k .last .1 .1 .1 .1 .1 .0) (k .ensures .0) (k .ensures .1) (c .before .before .before .before .before .before .answer .given .1) in
+    went (a .table .now) (a .s) (s .pre .0) (a .budget) (a .list .now) some room _ _ (k .last .1 .1 .1 .1 .1 .0) i (c .before .before .tell .last .1 .1 .1 .1 .0) (c .before .before .tell .result) (c .before .before .tell .ensures) (s .pre .1)
 
 -- src/session.rt:159:1
 same-length-3 : tie.Need-same-length-3
@@ -82,7 +82,7 @@ returns-2 c =
     let s = c .before .before .before .before .before .before .before .before .before .before .before in
     let a = s .args in
     let k = c .before .before .before .before .before .search in
-    absurd (not-refused (a .table .now) (a .s) (s .pre .0) 67108864 (a .list .now) (omega arith) (omega (arith, s .pre .2)) (k .result) _ (k .ensures .0) (c .enum-told .given .1))
+    absurd (not-refused (a .table .now) (a .s) (s .pre .0) (a .budget) (a .list .now) (omega (arith, s .pre .2)) (omega (arith, s .pre .3)) (k .result) _ (k .ensures .0) (c .enum-told .given .1))
 
 pub next-spec : {M : Type 1} → statement M
 next-spec =
