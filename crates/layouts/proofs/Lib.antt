@@ -3,3 +3,4 @@ pub mod NextLaw
 pub mod BeginLaw
 pub mod TellLaw
 pub mod DriveLaw
+pub mod CaseLaw
