@@ -1,8 +1,8 @@
 -- The start of a session: the head and what is left of the walk of a graph's table are its whole output.
 use mathlib.Core.Path.{_≡_, refl, sym, ap, ap₂, _∙_}
 use mathlib.Core.Bool.{Bool, true, false, not, true≢false}
-use mathlib.Core.List.{List, [], _∷_, _++_}
-use Prim.Native.Nat.{ℕ, zero, suc, _+_, _-_, _*_, _^_, _≤_, _<_}
+use mathlib.Core.List.{List, _++_}
+use Prim.Native.Nat.{ℕ, _+_, _-_, _*_, _^_, _≤_}
 use native.Mathlib.Omega.{arith}
 use lib.Dec.{eqb, ltb}
 use lib.ListN.{length, take, drop}
@@ -11,23 +11,21 @@ use borrow.Author.Tests.{eq-eqb, le-ltb}
 use Rattle.refusals.specs.declared.Refusal.the-variants as refusal
 use Rattle.refusals.specs.declared.Verdict.{Verdict}
 use Rattle.refusals.specs.declared.Verdict.the-variants as verdict
-use Rattle.refusals.specs.Refusal.{refuse, sized, after}
+use Rattle.refusals.specs.Refusal.{refuse, after}
 use Rattle.refusals.proofs.RefusalLaw.{refuse-none, Within, sized-next}
 use Rattle.tables.specs.Monomials.{countOf}
 use Rattle.tables.specs.Words.{Table, legalFront, wordsOf, differencesOf}
 use Rattle.tables.specs.Answers.{long, paired, checkedOf, copyVerdict, differencesAfter}
-use Rattle.tables.proofs.WordLaw.{front-of, front-whole, words-table}
+use Rattle.tables.proofs.WordLaw.{front-whole, words-table}
 use Rattle.tables.proofs.RoundLaw.{differences-table}
 use Rattle.graphs.specs.declared.GraphFault.{GraphFault}
-use Rattle.graphs.specs.declared.ReadAnswer.{ReadAnswer}
 use Rattle.graphs.specs.declared.ReadAnswer.the-variants as answer
 use Rattle.graphs.specs.Reading.{Ends, Outcome, graph, refused, outcomeOf, faultNumber}
 use Rattle.graphs.specs.Equations.{systemOf}
 use Rattle.graphs.specs.Answers.{answerOf, wordsAfter}
 use Rattle.graphs.specs.Parts.{Drawn}
 use Rattle.graphs.proofs.SoundLaw.{text-drawn}
-use Rattle.walks.specs.Calls.{Trail, zerosIn, costIn}
-use Rattle.search.specs.declared.Record.{Record}
+use Rattle.walks.specs.Calls.{zerosIn, costIn}
 use Rattle.search.specs.declared.Opened.{Opened}
 use Rattle.search.specs.Opened.{openedAt, noRecord, openVerdict, openOf}
 use Rattle.search.specs.Search.{trailOf}
@@ -35,7 +33,7 @@ use Rattle.search.proofs.VerdictLaw.{checked-next}
 use Rattle.search.proofs.DemandLaw.{end-is, cost-all}
 use Rattle.layouts.specs.declared.session.Session.{Session}
 use Rattle.layouts.specs.Text.{layoutLines, headLine, totalsLine, refusalLine}
-use Rattle.layouts.specs.Output.{layoutsIn, writtenFor, outputOf, Standing, leftFrom, leftIf, leftOf, Begun}
+use Rattle.layouts.specs.Output.{layoutsIn, writtenFor, outputOf, leftFrom, leftIf, leftOf, Begun}
 use Rattle.layouts.specs.Parts.{Refuses, Startable, Started}
 use Rattle.layouts.proofs.GraphLaw.{zeros-layouts}
 use Rattle.layouts.proofs.NextLaw.{append-none}

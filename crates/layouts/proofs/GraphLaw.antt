@@ -1,16 +1,16 @@
 -- The zeros of a graph's walk are its layouts: the table's system is the edges' modulo 3, and its common zeros are where the ends of every edge differ.
 use mathlib.Core.Path.{_≡_, refl, sym, ap, _∙_}
-use mathlib.Core.Bool.{Bool, true, false, not, _&&_}
+use mathlib.Core.Bool.{Bool, true, false, not}
 use mathlib.Core.List.{List, [], _∷_}
-use Prim.Native.Nat.{ℕ, zero, suc, _+_, _-_, _*_, _%_, _^_, _≤_, _<_}
+use Prim.Native.Nat.{ℕ, zero, suc, _-_, _%_, _<_}
 use native.Mathlib.Nat.{mod-lt}
 use native.Mathlib.Omega.{arith}
 use lib.Dec.{eqb}
 use lib.ListN.{length, getD}
-use borrow.Author.Tests.{eq-eqb, ne-eqb, eqb-false, not-true}
+use borrow.Author.Tests.{ne-eqb, eqb-false, not-true}
 use Rattle.trits.proofs.Bits.{and-left, and-right}
 use Rattle.gray.specs.Numbers.{pointDigit, pointOf}
-use Rattle.polynomials.specs.Poly.{Poly, valueOf, tableOf, backOf}
+use Rattle.polynomials.specs.Poly.{valueOf, tableOf}
 use Rattle.polynomials.proofs.FormLaw.{half-three}
 use Rattle.tables.specs.Words.{polyAt, wordsOf, differencesOf}
 use Rattle.tables.proofs.AgreeLaw.{Agree, agree-trans, back-agree, back-of-table}
@@ -18,7 +18,7 @@ use Rattle.tables.proofs.RoundLaw.{words-agree, differences-hold}
 use Rattle.graphs.specs.Reading.{Ends, graph, outcomeOf}
 use Rattle.graphs.specs.Equations.{noEnds, systemOf}
 use Rattle.graphs.proofs.ColourLaw.{colours}
-use Rattle.walks.specs.Calls.{Trail, listed, zerosIn}
+use Rattle.walks.specs.Calls.{listed, zerosIn}
 use Rattle.walk.proofs.CallLaw.{zeros-all, all-zeros}
 use Rattle.search.specs.Opened.{systemOf as behind}
 use Rattle.search.specs.Search.{trailOf}

@@ -4,7 +4,7 @@ use mathlib.Core.Bool.{Bool, true, false, not}
 use mathlib.Core.List.{List, _++_}
 use Prim.Native.Nat.{ℕ, _+_, _*_, _≤_}
 use native.Mathlib.Omega.{arith}
-use lib.ListN.{length, take}
+use lib.ListN.{length}
 use Rattle.walks.specs.declared.Report.{Report}
 use Rattle.search.specs.declared.Record.{Record}
 use Rattle.layouts.specs.declared.session.Session.{Session}

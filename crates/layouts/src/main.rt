@@ -1,4 +1,6 @@
-// Reads a graph file from standard input and writes all its layouts to standard output.
+// Reads a graph file from standard input and writes all its layouts to standard output: what it writes is said in specs/Output.
+// Standard error has words where a read or a write fails, and progress where it is a terminal. Here is proved that nothing goes
+// out of bounds and that the calls end; that the bytes reach the output is the C library's part.
 use crate::session::Session;
 use libc::STDERR_FILENO;
 use libc::STDIN_FILENO;

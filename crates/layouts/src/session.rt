@@ -1,4 +1,5 @@
 // The whole search of one graph file, a text at a time: what `begin` and each `next` leave in the text, joined, is the program's output.
+// Contracts cite specs/Output (the output of an input, and what is left of it between two calls) and specs/Parts.
 use crate::text;
 use graphs::ReadAnswer;
 use gray::Place;

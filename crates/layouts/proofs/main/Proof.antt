@@ -1,88 +1,62 @@
 -- `layouts::main` is safe and ends.
-use mathlib.Core.Path.{sym, ap, _∙_}
-use Prim.Native.Nat.{_≤_}
-use lib.ListN.{length}
+use mathlib.Core.Path.{sym, ap}
 use lib.Seq.{length-take-le}
-use Rattle.layouts.specs.declared.Input.{Input}
 use Rattle.layouts.specs.Parts.{bytesOf}
 use borrow.Author.Needs.{needs}
 use Rattle.layouts.proofs.main.Statement.{statement}
 use Rattle.layouts.proofs.main.Tie as tie
-use Rattle.layouts.proofs.main.Reads as reads
-use Rattle.layouts.proofs.main.Lts as lts
-use Rattle.io.proofs.write_all.Reads as write-all-reads
-use Rattle.layouts.proofs.read_input.Reads as read-input-reads
-use Rattle.layouts.proofs.run.Reads as run-reads
 
--- src/main.rt:117:22
 slice-aggregate-read-input : tie.Need-slice-aggregate-read-input
 slice-aggregate-read-input c = search needs
 
--- src/main.rt:117:11
 read-input-requires : tie.Need-read-input-requires
 read-input-requires c κs = search needs
 
--- src/main.rt:121:17
 enum-told : tie.Need-enum-told
 enum-told c = search needs
 
--- src/main.rt:121:17
 slice-aggregate-write-all : tie.Need-slice-aggregate-write-all
 slice-aggregate-write-all c = search needs
 
--- src/main.rt:119:13
 write-all-requires : tie.Need-write-all-requires
 write-all-requires c κs = search needs
 
--- src/main.rt:124:22
 enum-known-k : tie.Need-enum-known-k
 enum-known-k c = search needs
 
--- src/main.rt:125:21
 array-share-prefix-buf : tie.Need-array-share-prefix-buf
 array-share-prefix-buf c = rw (sym (ap bytesOf (c .before .k .given .1))) (c .before .before .before .before .read-input .ensures)
 
--- src/main.rt:125:21
 slice-aggregate-run : tie.Need-slice-aggregate-run
 slice-aggregate-run c = sym (length-take-le _ (c .before .before .before .before .before .read-input .last .0) (rw (sym (ap bytesOf (c .before .before .k .given .1))) (c .before .before .before .before .before .read-input .ensures)))
 
--- src/main.rt:125:32
 slice-aggregate-run-2 : tie.Need-slice-aggregate-run-2
 slice-aggregate-run-2 c = search needs
 
--- src/main.rt:125:44
 slice-aggregate-run-3 : tie.Need-slice-aggregate-run-3
 slice-aggregate-run-3 c = search needs
 
--- src/main.rt:125:56
 slice-aggregate-run-4 : tie.Need-slice-aggregate-run-4
 slice-aggregate-run-4 c = search needs
 
--- src/main.rt:125:67
 slice-aggregate-run-5 : tie.Need-slice-aggregate-run-5
 slice-aggregate-run-5 c = search needs
 
--- src/main.rt:125:17
 run-requires : tie.Need-run-requires
 run-requires c κs = search needs
 
--- src/main.rt:128:21
 slice-aggregate-write-all-2 : tie.Need-slice-aggregate-write-all-2
 slice-aggregate-write-all-2 c = search needs
 
--- src/main.rt:126:17
 write-all-requires-2 : tie.Need-write-all-requires-2
 write-all-requires-2 c κs = search needs
 
--- src/main.rt:111:1
 returns : tie.Need-returns
 returns c = search needs
 
--- src/main.rt:111:1
 returns-2 : tie.Need-returns-2
 returns-2 c = search needs
 
--- src/main.rt:111:1
 returns-3 : tie.Need-returns-3
 returns-3 c = search needs
 

@@ -1,15 +1,10 @@
 -- `layouts::read_input` is safe and ends: each read that goes on leaves less room.
-use mathlib.Core.Path.{_≡_, refl, sym, ap, _∙_}
-use Prim.Native.Nat.{_+_, _-_, _*_, _≤_}
-use native.Mathlib.Omega.{arith}
+use mathlib.Core.Path.{_≡_}
+use Prim.Native.Nat.{_-_, _≤_}
 use lib.ListN.{length}
 use borrow.Author.Needs.{needs}
 use Rattle.layouts.proofs.read_input.Statement.{statement}
 use Rattle.layouts.proofs.read_input.Tie as tie
-use Rattle.layouts.proofs.read_input.Reads as reads
-use Rattle.layouts.proofs.read_input.Lts as lts
-use Rattle.io.proofs.count.Reads as count-reads
-use Rattle.libc.proofs.read.Reads as read-reads
 
 abbrev Inv-loop : tie.InvT-loop
 Inv-loop buf₀ done₀ buf done = (done ≤ length buf) × (length buf ≡ length buf₀)
@@ -17,63 +12,48 @@ Inv-loop buf₀ done₀ buf done = (done ≤ length buf) × (length buf ≡ leng
 abbrev μ-loop : tie.MeasureT-loop
 μ-loop buf₀ done₀ buf done = length buf - done
 
--- src/main.rt:26:5
 loop-holds : tie.Need-loop-holds Inv-loop μ-loop
 loop-holds c = search needs
 
--- src/main.rt:27:20
 sub-rest : tie.Need-sub-rest Inv-loop μ-loop
 sub-rest c = search needs
 
--- src/main.rt:27:20
 part-rest-start : tie.Need-part-rest-start Inv-loop μ-loop
 part-rest-start c = search needs
 
--- src/main.rt:27:20
 part-rest-end : tie.Need-part-rest-end Inv-loop μ-loop
 part-rest-end c = search needs
 
--- src/main.rt:28:13
 read-requires : tie.Need-read-requires Inv-loop μ-loop
 read-requires c κs = search needs
 
--- src/main.rt:30:13
 same-length : tie.Need-same-length Inv-loop μ-loop
 same-length c = search needs
 
--- src/main.rt:30:13
 returns : tie.Need-returns Inv-loop μ-loop
 returns c = search needs
 
--- src/main.rt:32:13
 count-requires : tie.Need-count-requires Inv-loop μ-loop
 count-requires c κs = search needs
 
--- src/main.rt:34:13
 same-length-2 : tie.Need-same-length-2 Inv-loop μ-loop
 same-length-2 c = search needs
 
--- src/main.rt:34:13
 returns-2 : tie.Need-returns-2 Inv-loop μ-loop
 returns-2 c = search needs
 
--- src/main.rt:36:9
 add-done : tie.Need-add-done Inv-loop μ-loop
 add-done c = search needs
 
--- src/main.rt:26:5
 loop-less : tie.Need-loop-less Inv-loop μ-loop
 loop-less c = search needs
 
--- src/main.rt:26:5
 loop-again : tie.Need-loop-again Inv-loop μ-loop
 loop-again c = search needs
 
--- src/main.rt:22:1
 same-length-3 : tie.Need-same-length-3 Inv-loop μ-loop
 same-length-3 c = search needs
 
--- src/main.rt:22:1
 returns-3 : tie.Need-returns-3 Inv-loop μ-loop
 returns-3 c = search needs
 

@@ -1,70 +1,50 @@
 -- `layouts::session::begin` meets its contract.
-use mathlib.Core.Path.{_≡_, sym, ap, _∙_}
-use mathlib.Core.List.{List, _++_}
+use mathlib.Core.Path.{sym, ap, _∙_}
 use Prim.Native.Nat.{ℕ, _*_}
 use native.Mathlib.Omega.{arith}
-use lib.ListN.{length, take, drop}
+use lib.ListN.{take, drop}
 use lib.Seq.{length-take-le}
 use Rattle.tables.specs.Monomials.{countOf}
 use Rattle.graphs.specs.Reading.{outcomeOf}
 use Rattle.graphs.specs.Answers.{answerOf, wordsAfter}
-use Rattle.layouts.specs.Parts.{Startable, Started}
 use Rattle.layouts.proofs.BeginLaw.{begun-refused, least, most, startable, begun-graph}
 use borrow.Author.Needs.{needs}
 use Rattle.layouts.proofs.session.begin.Statement.{statement}
 use Rattle.layouts.proofs.session.begin.Tie as tie
-use Rattle.layouts.proofs.session.begin.Reads as reads
-use Rattle.layouts.proofs.session.begin.Lts as lts
-use Rattle.graphs.proofs.fault_number.Reads as fault-number-reads
-use Rattle.graphs.proofs.read.Reads as read-reads
-use Rattle.layouts.proofs.session.refused.Reads as refused-reads
-use Rattle.layouts.proofs.session.start.Reads as start-reads
-use Rattle.layouts.proofs.session.table_words.Reads as table-words-reads
 
--- src/session.rt:98:9
 read-requires : tie.Need-read-requires
 read-requires c κs = search needs
 
--- src/session.rt:100:31
 enum-known-answer : tie.Need-enum-known-answer
 enum-known-answer c = search needs
 
--- src/session.rt:101:17
 fault-number-requires : tie.Need-fault-number-requires
 fault-number-requires c κs = search needs
 
--- src/session.rt:102:13
 refused-requires : tie.Need-refused-requires
 refused-requires c κs = search needs
 
--- src/session.rt:104:29
 enum-known-answer-2 : tie.Need-enum-known-answer-2
 enum-known-answer-2 c = search needs
 
--- src/session.rt:105:17
 table-words-requires : tie.Need-table-words-requires
 table-words-requires c κs =
     let a = c .before .before .before .before .before .before .before .before .before .before .before in
     let e = sym (c .before .answer2 .given .1) ∙ c .before .before .before .before .before .read .ensures .0 ∙ ap (λ (w : ℕ). answerOf (outcomeOf (a .args .input .now) w)) (a .pre .0) in
     (least (a .args .input .now) _ _ e, most (a .args .input .now) _ _ e)
 
--- src/session.rt:106:25
 slice-reshare-prefix-start : tie.Need-slice-reshare-prefix-start
 slice-reshare-prefix-start c = search needs
 
--- src/session.rt:106:25
 slice-aggregate-start : tie.Need-slice-aggregate-start
 slice-aggregate-start c = sym (length-take-le (c .before .table-words .result) (c .before .before .before .before .before .before .before .read .last .1 .0) (omega (arith, c .before .table-words .ensures .1, c .before .before .before .before .before .before .before .read .kept .1 .0, c .before .before .before .before .before .before .before .before .before .before .before .before .before .pre .0)))
 
--- src/session.rt:106:41
 slice-relend-prefix-start : tie.Need-slice-relend-prefix-start
 slice-relend-prefix-start c = search needs
 
--- src/session.rt:106:41
 slice-aggregate-start-2 : tie.Need-slice-aggregate-start-2
 slice-aggregate-start-2 c = sym (length-take-le (c .before .before .table-words .result) (c .before .before .before .before .before .before .before .before .before .before .before .before .before .before .args .table .now) (omega (arith, c .before .before .table-words .ensures .1, c .before .before .before .before .before .before .before .before .before .before .before .before .before .before .pre .1)))
 
--- src/session.rt:106:13
 start-requires : tie.Need-start-requires
 start-requires c κs =
     let a = c .before .before .before .before .before .before .before .before .before .before .before .before .before .before .before in
@@ -79,15 +59,12 @@ start-requires c κs =
       omega (arith, a .pre .2),
     )
 
--- src/session.rt:94:1
 same-length : tie.Need-same-length
 same-length c = search needs
 
--- src/session.rt:94:1
 same-length-2 : tie.Need-same-length-2
 same-length-2 c = search needs
 
--- src/session.rt:94:1
 returns : tie.Need-returns
 returns c =
     let a = c .before .before .before .before .before .before .before .before .before .before .before .before .before .before .before .before in
@@ -97,19 +74,15 @@ returns c =
     (sym (c .before .before .before .before .before .before .answer .given .1) ∙ r .ensures .0 ∙ ap (λ (w : ℕ). answerOf (outcomeOf x w)) (a .pre .0))
     (c .before .before .before .before .fault-number .ensures) (c .before .before .refused .ensures)
 
--- src/session.rt:94:1
 same-length-3 : tie.Need-same-length-3
 same-length-3 c = search needs
 
--- src/session.rt:94:1
 same-length-4 : tie.Need-same-length-4
 same-length-4 c = search needs
 
--- src/session.rt:94:1
 same-length-5 : tie.Need-same-length-5
 same-length-5 c = search needs
 
--- src/session.rt:94:1
 returns-2 : tie.Need-returns-2
 returns-2 c =
     let a = c .before .before .before .before .before .before .before .before .before .before .before .before .before .before .before .before .before .before .before .before in

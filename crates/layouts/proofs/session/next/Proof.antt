@@ -1,27 +1,20 @@
 -- `layouts::session::next` meets its contract.
-use mathlib.Core.Path.{_≡_, sym, ap, _∙_}
-use Prim.Native.Nat.{ℕ, _<_, _≤_}
+use mathlib.Core.Path.{sym}
+use Prim.Native.Nat.{_<_}
 use native.Mathlib.Omega.{arith}
-use lib.ListN.{length, take}
+use lib.ListN.{length}
 use lib.Seq.{length-take-le}
 use Rattle.layouts.proofs.NextLaw.{not-refused, answered, tellable, went}
 use borrow.Author.Needs.{needs}
 use Rattle.layouts.proofs.session.next.Statement.{statement}
 use Rattle.layouts.proofs.session.next.Tie as tie
-use Rattle.layouts.proofs.session.next.Reads as reads
-use Rattle.layouts.proofs.session.next.Lts as lts
-use Rattle.layouts.proofs.session.tell.Reads as tell-reads
-use Rattle.search.proofs.search.Reads as search-reads
 
--- src/session.rt:164:9
 search-requires : tie.Need-search-requires
 search-requires c κs = search needs
 
--- src/session.rt:168:21
 enum-known-answer : tie.Need-enum-known-answer
 enum-known-answer c = search needs
 
--- src/session.rt:170:37
 slice-reshare-prefix-tell : tie.Need-slice-reshare-prefix-tell
 slice-reshare-prefix-tell c =
     let s = c .before .before .before .before .before .before .before .before .before .before .before .before in
@@ -29,7 +22,6 @@ slice-reshare-prefix-tell c =
     let k = c .before .before .before .before .before .before .search in
     answered (a .table .now) (a .s) (s .pre .0) (a .budget) (a .list .now) (omega (arith, s .pre .2)) (omega (arith, s .pre .3)) (k .result) _ (k .last .1 .1 .1 .1 .1 .0) (k .ensures .0) (k .ensures .1) (c .before .answer .given .1) .fits
 
--- src/session.rt:170:37
 slice-aggregate-tell : tie.Need-slice-aggregate-tell
 slice-aggregate-tell c =
     let s = c .before .before .before .before .before .before .before .before .before .before .before .before .before in
@@ -38,7 +30,6 @@ slice-aggregate-tell c =
     let i = answered (a .table .now) (a .s) (s .pre .0) (a .budget) (a .list .now) (omega (arith, s .pre .2)) (omega (arith, s .pre .3)) (k .result) _ (k .last .1 .1 .1 .1 .1 .0) (k .ensures .0) (k .ensures .1) (c .before .before .answer .given .1) in
     sym (length-take-le _ (k .last .1 .1 .1 .1 .1 .0) (i .fits))
 
--- src/session.rt:170:13
 tell-requires : tie.Need-tell-requires
 tell-requires c κs =
     let s = c .before .before .before .before .before .before .before .before .before .before .before .before .before .before in
@@ -49,19 +40,15 @@ tell-requires c κs =
     let i = answered (a .table .now) (a .s) (s .pre .0) (a .budget) (a .list .now) some room (k .result) _ (k .last .1 .1 .1 .1 .1 .0) (k .ensures .0) (k .ensures .1) (c .before .before .before .answer .given .1) in
     tellable (a .table .now) (a .s) (s .pre .0) (a .budget) (a .list .now) some room _ _ (k .last .1 .1 .1 .1 .1 .0) i (a .text .now) (s .pre .4)
 
--- src/session.rt:173:31
 enum-told : tie.Need-enum-told
 enum-told c = search needs
 
--- src/session.rt:159:1
 same-length : tie.Need-same-length
 same-length c = search needs
 
--- src/session.rt:159:1
 same-length-2 : tie.Need-same-length-2
 same-length-2 c = search needs
 
--- src/session.rt:159:1
 returns : tie.Need-returns
 returns c =
     let s = c .before .before .before .before .before .before .before .before .before .before .before .before .before .before .before .before .before in
@@ -72,11 +59,9 @@ returns c =
     let i = answered (a .table .now) (a .s) (s .pre .0) (a .budget) (a .list .now) some room (k .result) _ (k .last .1 .1 .1 .1 .1 .0) (k .ensures .0) (k .ensures .1) (c .before .before .before .before .before .before .answer .given .1) in
     went (a .table .now) (a .s) (s .pre .0) (a .budget) (a .list .now) some room _ _ (k .last .1 .1 .1 .1 .1 .0) i (c .before .before .tell .last .1 .1 .1 .1 .0) (c .before .before .tell .result) (c .before .before .tell .ensures) (s .pre .1)
 
--- src/session.rt:159:1
 same-length-3 : tie.Need-same-length-3
 same-length-3 c = search needs
 
--- src/session.rt:159:1
 returns-2 : tie.Need-returns-2
 returns-2 c =
     let s = c .before .before .before .before .before .before .before .before .before .before .before in

@@ -4,33 +4,22 @@ use Rattle.layouts.proofs.BeginLaw.{table-is, started}
 use borrow.Author.Needs.{needs}
 use Rattle.layouts.proofs.session.start.Statement.{statement}
 use Rattle.layouts.proofs.session.start.Tie as tie
-use Rattle.layouts.proofs.session.start.Reads as reads
-use Rattle.layouts.proofs.session.start.Lts as lts
-use Rattle.layouts.proofs.text.put_head.Reads as put-head-reads
-use Rattle.search.proofs.open.Reads as open-reads
-use Rattle.tables.proofs.differences.Reads as differences-reads
 
--- src/session.rt:77:5
 differences-requires : tie.Need-differences-requires
 differences-requires c κs = search needs
 
--- src/session.rt:78:9
 open-requires : tie.Need-open-requires
 open-requires c κs = search needs
 
--- src/session.rt:80:9
 put-head-requires : tie.Need-put-head-requires
 put-head-requires c κs = search needs
 
--- src/session.rt:73:1
 same-length : tie.Need-same-length
 same-length c = search needs
 
--- src/session.rt:73:1
 same-length-2 : tie.Need-same-length-2
 same-length-2 c = search needs
 
--- src/session.rt:73:1
 returns : tie.Need-returns
 returns c =
     let s = c .before .before .before .before .before .before .before .before .before .before .before .before .before .before in

@@ -7,36 +7,27 @@ use Rattle.tables.proofs.IndexLaw.{product-le, count-le}
 use borrow.Author.Needs.{needs}
 use Rattle.layouts.proofs.session.table_words.Statement.{statement}
 use Rattle.layouts.proofs.session.table_words.Tie as tie
-use Rattle.layouts.proofs.session.table_words.Reads as reads
-use Rattle.layouts.proofs.session.table_words.Lts as lts
 
--- src/session.rt:38:14
 mul-result : tie.Need-mul-result
 mul-result c = search needs
 
--- src/session.rt:38:10
 add-result : tie.Need-add-result
 add-result c = search needs
 
--- src/session.rt:38:27
 sub-result : tie.Need-sub-result
 sub-result c = search needs
 
--- src/session.rt:38:22
 mul-result-2 : tie.Need-mul-result-2
 mul-result-2 c = omega (arith, product-le (c .args .n) (c .args .n - 1) (c .pre .1) (omega (arith, c .pre)))
 
--- src/session.rt:38:10
 add-result-2 : tie.Need-add-result-2
 unfolding countOf
 add-result-2 c = omega (arith, count-le (c .args .n) (c .pre .1))
 
--- src/session.rt:38:5
 mul-result-3 : tie.Need-mul-result-3
 unfolding countOf
 mul-result-3 c = omega (arith, count-le (c .args .n) (c .pre .1))
 
--- src/session.rt:33:1
 returns : tie.Need-returns
 unfolding countOf
 returns c = (refl, omega (arith, count-le (c .args .n) (c .pre .1)))
