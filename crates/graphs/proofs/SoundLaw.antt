@@ -9,6 +9,7 @@ use native.Mathlib.Omega.{arith}
 use lib.Dec.{ltb}
 use lib.ListN.{length, getD, length-append, List·getD-append}
 use lib.Seq.{getD-at}
+use borrow.Author.Tests.{ltb-false}
 use Rattle.graphs.specs.declared.GraphFault.{GraphFault}
 use Rattle.graphs.specs.declared.GraphFault.the-variants as why
 use Rattle.graphs.specs.declared.reading.Finding.{Finding}
@@ -87,9 +88,19 @@ refuse-graph : (b : Bool) (r : GraphFault) (k : ℕ) (o : Outcome) (v : ℕ) (es
 refuse-graph true r k o v es e = absurd (refused-graph r k v es e)
 refuse-graph false r k o v es e = e
 
-drawn-good : (v e : ℕ) (es : List Ends) → Good v e es → Drawn v es
-drawn-good v e es g =
-    record { least = g .limits .v-least; most = g .limits .v-most; few = omega (arith, g .few, g .limits .e-most); each = g .each }
+refuse-test : (b : Bool) (r : GraphFault) (k : ℕ) (o : Outcome) (v : ℕ) (es : List Ends) → refuse b r k o ≡ graph v es → b ≡ false
+refuse-test true r k o v es e = absurd (refused-graph r k v es e)
+refuse-test false r k o v es e = refl
+
+drawn-good : (v e : ℕ) (es : List Ends) → Good v e es → e ≤ length es → Drawn v es
+drawn-good v e es g l =
+    record {
+      least = g .limits .v-least;
+      most = g .limits .v-most;
+      some = omega (arith, l, g .limits .e-least);
+      few = omega (arith, g .few, g .limits .e-most);
+      each = g .each;
+    }
 
 graph-same : (v v′ : ℕ) (es es′ : List Ends) → graph v es ≡ graph v′ es′ → Drawn v es → Drawn v′ es′
 graph-same v v′ es es′ e d = let p : v ≡ v′ = cc in let q : es ≡ es′ = cc in rw (← p, ← q) d
@@ -100,7 +111,7 @@ sound-end start g v es e = absurd (refused-graph why.Order 0 v es e)
 sound-end (declared n m xs) g v es e =
     let e1 = refuse-graph (ltb (length xs) m) why.Count 0 _ v es e in
     let e2 = refuse-graph (ltb m (length xs)) why.Count 0 _ v es e1 in
-    graph-same n v xs es e2 (drawn-good n m xs g)
+    graph-same n v xs es e2 (drawn-good n m xs g (ltb-false _ _ (refuse-test (ltb (length xs) m) why.Count 0 _ v es e)))
 
 -- one line, where what follows is sound
 sound-turn : (l : List ℕ) (ls : List (List ℕ)) (k : ℕ) (s : State) → Sound s → (v : ℕ) (es : List Ends)

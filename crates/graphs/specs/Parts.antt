@@ -22,6 +22,7 @@ pub record Edged (v : ℕ) (x : Ends) : Type 0 where
 pub record Drawn (v : ℕ) (es : List Ends) : Type 0 where
   pub least : 1 ≤ v
   pub most : v ≤ 20
+  pub some : 1 ≤ length es
   pub few : length es ≤ 64
   pub each : (e : ℕ) → e < length es → Edged v (getD es e noEnds)
 

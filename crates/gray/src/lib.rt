@@ -8,6 +8,7 @@ mod positions;
 
 pub use balanced::from_balanced;
 pub use balanced::to_balanced;
+pub use map::place_at;
 pub use map::place_of;
 pub use map::point_at;
 pub use map::point_of;

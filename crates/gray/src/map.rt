@@ -31,8 +31,9 @@ pub fn point_at(n: u64, p: Place) -> Point
     Point(point)
 }
 
-// The place of a point, from the highest digit down: a digit of the place is that of the point plus the place's digit above.
-fn place_at(n: u64, x: Point) -> Place
+// The place of a point below 3 to the n, for a caller that knows n to be at most 20: from the highest digit down, a digit of the
+// place is that of the point plus the place's digit above.
+pub fn place_at(n: u64, x: Point) -> Place
     requires { ⌜ n ≤ 20 ⌝ }
     ensures { λ r. ⌜ r .0 ≡ placeOf 3 n (x .0) ⌝ }
 {

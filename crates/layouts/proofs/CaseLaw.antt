@@ -1,0 +1,13 @@
+-- The cases hold: each is computed.
+use mathlib.Core.Path.{refl}
+use Rattle.residues.specs.Sums.{sum}
+use Rattle.gray.specs.Numbers.{digit, number, pointDigit, pointOf, placeDigit, placeOf}
+use Rattle.graphs.specs.Lines.{firstOf, decimalFrom, pairIn, starts, shapeOf}
+use Rattle.graphs.specs.Reading.{linesOf, takeLine, endOf, readLines, outcomeOf}
+use Rattle.layouts.specs.Text.{decimalIn, digitsOf, layoutLine, layoutLines, headLine, totalsLine, refusalLine}
+use Rattle.layouts.specs.Output.{differAt, layoutsIn, outputOf}
+use Rattle.layouts.specs.Cases.{Cases}
+
+pub cases : Cases
+unfolding sum digit number pointDigit pointOf placeDigit placeOf firstOf decimalFrom pairIn starts shapeOf linesOf takeLine endOf readLines outcomeOf decimalIn digitsOf layoutLine layoutLines headLine totalsLine refusalLine differAt layoutsIn outputOf
+cases = record { output = refl; refused = refl }
