@@ -1,5 +1,6 @@
 -- The lines that the program writes, as bytes.
 use mathlib.Core.Path.{_≡_}
+use mathlib.Core.Bool.{true, false}
 use mathlib.Core.List.{List, [], _∷_, _++_}
 use Prim.Native.Nat.{ℕ, zero, suc, _+_, _/_, _%_}
 use lib.Dec.{ltb}
@@ -46,8 +47,8 @@ unfoldable pub refusalLine : ℕ → ℕ → List ℕ
 refusalLine r k =
     (114 ∷ 101 ∷ 102 ∷ 117 ∷ 115 ∷ 101 ∷ 100 ∷ 32 ∷ []) ++ (decimalOf r ++ ((32 ∷ 108 ∷ 105 ∷ 110 ∷ 101 ∷ 32 ∷ []) ++ (decimalOf k ++ (10 ∷ []))))
 
--- s was put into a text at byte `at`: what stood before stays, and the next free byte is `next`
-pub record Put (old : List ℕ) (at : ℕ) (s : List ℕ) (new : List ℕ) (next : ℕ) : Type 0 where
+-- s was put into a text at byte `at`: what stood before stays, and the next free byte is `end`
+pub record Put (old : List ℕ) (at : ℕ) (s : List ℕ) (new : List ℕ) (end : ℕ) : Type 0 where
   pub size : length new ≡ length old
-  pub next : next ≡ at + length s
-  pub front : take next new ≡ take at old ++ s
+  pub next : end ≡ at + length s
+  pub front : take end new ≡ take at old ++ s
