@@ -1,3 +1,4 @@
+pub mod TextLaw
 pub mod GraphLaw
 pub mod NextLaw
 pub mod BeginLaw

@@ -1,8 +1,8 @@
 // The program's lines, put into a text that is lent: each function answers where the next byte goes.
-use gray::PlaceAnswer;
 use gray::Point;
-ghost use Prim.Native.Nat.{_+_, _*_, _≤_};
-ghost use lib.ListN.{length};
+ghost use mathlib.Core.Path.{_≡_};
+ghost use Prim.Native.Nat.{_+_, _*_, _≤_, _<_};
+ghost use lib.ListN.{length, drop};
 ghost use Rattle.layouts.specs.Text.{Put, decimalOf, digitsOf, layoutLine, layoutLines, headLine, totalsLine, refusalLine};
 
 // Bytes as they are.
@@ -18,17 +18,38 @@ fn put(text: &mut [u8], at: usize, s: &[u8]) -> usize
     at + i
 }
 
+// The byte of a decimal digit.
+fn glyph(d: u64) -> u8
+    requires { ⌜ d < 10 ⌝ }
+    ensures { λ r. ⌜ r ≡ 48 + d ⌝ }
+{
+    (48 + d) as u8
+}
+
+// A number in decimal digits at the end of 20 bytes; where the first digit stands.
+fn spell(bytes: &mut [u8], x: u64) -> usize
+    requires { ⌜ length (now bytes) ≡ 20 ⌝ }
+    ensures { λ r. ⌜ (r < 20) × (length (now (bytes .exit)) ≡ 20) × (drop r (now (bytes .exit)) ≡ decimalOf x) ⌝ }
+{
+    let mut i: usize = 19;
+    let mut rest = x;
+    while rest >= 10 {
+        bytes[i] = glyph(rest % 10);
+        rest = rest / 10;
+        i -= 1;
+    }
+    bytes[i] = glyph(rest);
+    i
+}
+
 // A number in decimal digits.
 fn put_number(text: &mut [u8], at: usize, x: u64) -> usize
     requires { ⌜ at + 20 ≤ length (now text) ⌝ }
     ensures { λ r. ⌜ Put (now (text .entry)) at (decimalOf x) (now (text .exit)) r × (r ≤ at + 20) ⌝ }
 {
-    let mut next = at;
-    if x > 9 {
-        next = put_number(text, at, x / 10);
-    }
-    text[next] = 48 + (x % 10) as u8;
-    next + 1
+    let mut bytes = [0u8; 20];
+    let first = spell(&mut bytes, x);
+    put(text, at, &bytes[first..])
 }
 
 // The n digits of a point, x0 first.
@@ -36,14 +57,13 @@ fn put_digits(text: &mut [u8], at: usize, n: u64, x: u64) -> usize
     requires { ⌜ (n ≤ 20) × (at + n ≤ length (now text)) ⌝ }
     ensures { λ r. ⌜ Put (now (text .entry)) at (digitsOf n x) (now (text .exit)) r × (r ≤ at + 20) ⌝ }
 {
-    let mut i: u64 = 0;
+    let end = at + n as usize;
     let mut next = at;
     let mut rest = x;
-    while i < n {
-        text[next] = 48 + (rest % 3) as u8;
+    while next < end {
+        text[next] = glyph(rest % 3);
         rest = rest / 3;
         next += 1;
-        i += 1;
     }
     next
 }
@@ -53,12 +73,8 @@ fn put_layout(text: &mut [u8], at: usize, n: u64, x: u64) -> usize
     requires { ⌜ (n ≤ 20) × (at + 63 ≤ length (now text)) ⌝ }
     ensures { λ r. ⌜ Put (now (text .entry)) at (layoutLine n x) (now (text .exit)) r × (r ≤ at + 63) ⌝ }
 {
-    let answer = gray::place_of(n, Point(x));
-    let place = match answer {
-        PlaceAnswer::At(p) => p.0,
-        PlaceAnswer::Refused(_) => 0,
-    };
-    let a = put_number(text, at, place);
+    let place = gray::place_at(n, Point(x));
+    let a = put_number(text, at, place.0);
     let b = put(text, a, b" ");
     let c = put_number(text, b, x);
     let d = put(text, c, b" ");
@@ -71,13 +87,13 @@ pub fn put_layouts(text: &mut [u8], n: u64, points: &[u64]) -> usize
     requires { ⌜ (n ≤ 20) × (63 * length (now points) ≤ length (now text)) ⌝ }
     ensures { λ r. ⌜ Put (now (text .entry)) 0 (layoutLines n (now (points .entry))) (now (text .exit)) r × (r ≤ 63 * length (now (points .entry))) ⌝ }
 {
+    let mut next: usize = 0;
     let mut i: usize = 0;
-    let mut at: usize = 0;
     while i < points.len() {
-        at = put_layout(text, at, n, points[i]);
+        next = put_layout(text, next, n, points[i]);
         i += 1;
     }
-    at
+    next
 }
 
 // The first line.
