@@ -115,7 +115,7 @@ fn run(
     if !s.open {
         return true;
     }
-    let size = session::table_words(s.n);
+    let size = tables::words(s.n);
     walk_graph(s, &table[..size], list, text)
 }
 

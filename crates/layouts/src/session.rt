@@ -11,7 +11,6 @@ ghost use mathlib.Core.Path.{_≡_};
 ghost use mathlib.Core.Bool.{true};
 ghost use Prim.Native.Nat.{_+_, _*_, _≤_};
 ghost use lib.ListN.{length};
-ghost use Rattle.tables.specs.Monomials.{countOf};
 ghost use Rattle.layouts.specs.Output.{Standing, Begun, Went};
 ghost use Rattle.layouts.specs.Parts.{Refuses, Startable, Started, isEnded, Tellable, Told};
 
@@ -25,15 +24,6 @@ pub struct Session {
     pub found: u64,
     pub used: usize,
     pub open: bool,
-}
-
-// How many words a table of n unknowns has.
-pub fn table_words(n: u64) -> usize
-    requires { ⌜ (1 ≤ n) × (n ≤ 20) ⌝ }
-    ensures { λ r. ⌜ (r ≡ 2 * countOf n) × (r ≤ 462) ⌝ }
-{
-    let k = n as usize;
-    2 * (1 + 2 * k + k * (k - 1) / 2)
 }
 
 // The record that goes with no walk.
@@ -87,7 +77,7 @@ fn start(n: u64, m: u64, words: &[u64], table: &mut [u64], text: &mut [u8]) -> S
     }
 }
 
-// Reads the input. The text has the first line, or the refusal; the table of a graph has table_words of its n.
+// Reads the input. The text has the first line, or the refusal; the table of a graph has its words in front.
 pub fn begin(input: &[u8], words: &mut [u64], table: &mut [u64], text: &mut [u8]) -> Session
     requires { ⌜ (length (now words) ≡ 462) × (length (now table) ≡ 462) × (55 ≤ length (now text)) ⌝ }
     ensures { λ r. ⌜ Begun (now (input .entry)) (now (table .exit)) (now (text .exit)) r ⌝ }
@@ -99,7 +89,7 @@ pub fn begin(input: &[u8], words: &mut [u64], table: &mut [u64], text: &mut [u8]
             refused(number, line, text)
         }
         ReadAnswer::Graph { n, m } => {
-            let size = table_words(n);
+            let size = tables::words(n);
             start(n, m, &words[..size], &mut table[..size], text)
         }
     }

@@ -44,8 +44,8 @@ same-length-6 c = search needs
 returns-2 : tie.Need-returns-2
 returns-2 c = search needs
 
-table-words-requires : tie.Need-table-words-requires
-table-words-requires c κs =
+words-requires : tie.Need-words-requires
+words-requires c κs =
     let b = c .before .before .before .before .before .before .before .before .before .before .before .begin in
     unknowns _ (b .result) (b .ensures .standing (not-false _ (c .if2 .left)))
 
@@ -55,13 +55,13 @@ slice-reshare-prefix-walk-graph c = search needs
 slice-aggregate-walk-graph : tie.Need-slice-aggregate-walk-graph
 slice-aggregate-walk-graph c =
     let b = c .before .before .before .before .before .before .before .before .before .before .before .before .before .begin in
-    sym (length-take-le (c .before .table-words .result) (b .last .1 .1 .0) (omega (arith, c .before .table-words .ensures .1, b .kept .1 .1 .0, c .before .before .before .before .before .before .before .before .before .before .before .before .before .before .before .before .before .before .before .before .before .before .pre .1)))
+    sym (length-take-le (c .before .words2 .result) (b .last .1 .1 .0) (omega (arith, c .before .words2 .ensures .1, b .kept .1 .1 .0, c .before .before .before .before .before .before .before .before .before .before .before .before .before .before .before .before .before .before .before .before .before .before .pre .1)))
 
 walk-graph-requires : tie.Need-walk-graph-requires
 walk-graph-requires c κs =
     let b = c .before .before .before .before .before .before .before .before .before .before .before .before .before .before .before .begin in
     let a = c .before .before .before .before .before .before .before .before .before .before .before .before .before .before .before .before .before .before .before .before .before .before .before .before in (
-      rw (c .before .before .before .table-words .ensures .0) (b .ensures .standing (not-false _ (c .before .before .before .before .if2 .left))),
+      rw (c .before .before .before .words2 .ensures .0) (b .ensures .standing (not-false _ (c .before .before .before .before .if2 .left))),
       omega (arith, a .pre .2),
       omega (arith, a .pre .2, a .pre .3, b .kept .1 .1 .1 .0),
     )
@@ -97,7 +97,7 @@ run-spec =
     same-length-5
     same-length-6
     returns-2
-    table-words-requires
+    words-requires
     slice-reshare-prefix-walk-graph
     slice-aggregate-walk-graph
     walk-graph-requires

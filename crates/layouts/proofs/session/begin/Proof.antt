@@ -27,8 +27,8 @@ refused-requires c κs = search needs
 enum-known-answer-2 : tie.Need-enum-known-answer-2
 enum-known-answer-2 c = search needs
 
-table-words-requires : tie.Need-table-words-requires
-table-words-requires c κs =
+words-requires : tie.Need-words-requires
+words-requires c κs =
     let a = c .before .before .before .before .before .before .before .before .before .before .before in
     let e = sym (c .before .answer2 .given .1) ∙ c .before .before .before .before .before .read .ensures .0 ∙ ap (λ (w : ℕ). answerOf (outcomeOf (a .args .input .now) w)) (a .pre .0) in
     (least (a .args .input .now) _ _ e, most (a .args .input .now) _ _ e)
@@ -37,13 +37,13 @@ slice-reshare-prefix-start : tie.Need-slice-reshare-prefix-start
 slice-reshare-prefix-start c = search needs
 
 slice-aggregate-start : tie.Need-slice-aggregate-start
-slice-aggregate-start c = sym (length-take-le (c .before .table-words .result) (c .before .before .before .before .before .before .before .read .last .1 .0) (omega (arith, c .before .table-words .ensures .1, c .before .before .before .before .before .before .before .read .kept .1 .0, c .before .before .before .before .before .before .before .before .before .before .before .before .before .pre .0)))
+slice-aggregate-start c = sym (length-take-le (c .before .words2 .result) (c .before .before .before .before .before .before .before .read .last .1 .0) (omega (arith, c .before .words2 .ensures .1, c .before .before .before .before .before .before .before .read .kept .1 .0, c .before .before .before .before .before .before .before .before .before .before .before .before .before .pre .0)))
 
 slice-relend-prefix-start : tie.Need-slice-relend-prefix-start
 slice-relend-prefix-start c = search needs
 
 slice-aggregate-start-2 : tie.Need-slice-aggregate-start-2
-slice-aggregate-start-2 c = sym (length-take-le (c .before .before .table-words .result) (c .before .before .before .before .before .before .before .before .before .before .before .before .before .before .args .table .now) (omega (arith, c .before .before .table-words .ensures .1, c .before .before .before .before .before .before .before .before .before .before .before .before .before .before .pre .1)))
+slice-aggregate-start-2 c = sym (length-take-le (c .before .before .words2 .result) (c .before .before .before .before .before .before .before .before .before .before .before .before .before .before .args .table .now) (omega (arith, c .before .before .words2 .ensures .1, c .before .before .before .before .before .before .before .before .before .before .before .before .before .before .pre .1)))
 
 start-requires : tie.Need-start-requires
 start-requires c κs =
@@ -51,7 +51,7 @@ start-requires c κs =
     let r = c .before .before .before .before .before .before .before .before .before .read in
     let x = a .args .input .now in
     let g = c .before .before .before .before .before .answer2 .given in
-    let k = c .before .before .before .table-words in
+    let k = c .before .before .before .words2 in
     let e = sym (g .1) ∙ r .ensures .0 ∙ ap (λ (w : ℕ). answerOf (outcomeOf x w)) (a .pre .0) in
     let q = r .ensures .1 ∙ ap (λ (w : ℕ). wordsAfter (outcomeOf x w) (a .args .words .now)) (a .pre .0) in
     let l = length-take-le (k .result) (a .args .table .now) (omega (arith, k .ensures .1, a .pre .1)) in (
@@ -89,7 +89,7 @@ returns-2 c =
     let r = c .before .before .before .before .before .before .before .before .before .before .before .before .before .before .read in
     let x = a .args .input .now in
     let g = c .before .before .before .before .before .before .before .before .before .before .answer2 .given in
-    let k = c .before .before .before .before .before .before .before .before .table-words in
+    let k = c .before .before .before .before .before .before .before .before .words2 in
     let e = sym (g .1) ∙ r .ensures .0 ∙ ap (λ (w : ℕ). answerOf (outcomeOf x w)) (a .pre .0) in
     let q = r .ensures .1 ∙ ap (λ (w : ℕ). wordsAfter (outcomeOf x w) (a .args .words .now)) (a .pre .0) in
     let s = c .before .before .before .before .start in
@@ -106,7 +106,7 @@ begin-spec =
     fault-number-requires
     refused-requires
     enum-known-answer-2
-    table-words-requires
+    words-requires
     slice-reshare-prefix-start
     slice-aggregate-start
     slice-relend-prefix-start
