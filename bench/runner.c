@@ -8,6 +8,7 @@
  * if every repetition ended and agreed: it is the least processor time of them. */
 #define _DEFAULT_SOURCE /* mmap with MAP_ANONYMOUS, alarm */
 #include "../tests/reference/interface.h"
+#include "../tests/reference/random.h"
 #include "walks.h"
 
 #include <inttypes.h>
@@ -91,15 +92,6 @@ struct task {
     uint64_t before[MOST_STARTS][RECORD_WORDS], after[MOST_STARTS][RECORD_WORDS];
     uint64_t found, *list;      /* the plain walk's, later */
 };
-
-static uint64_t random_state;
-
-static uint64_t random_word(void) { /* splitmix64 */
-    uint64_t z = random_state += 0x9e3779b97f4a7c15;
-    z = (z ^ z >> 30) * 0xbf58476d1ce4e5b9;
-    z = (z ^ z >> 27) * 0x94d049bb133111eb;
-    return z ^ z >> 31;
-}
 
 static void stop_bench(const char *why) {
     fprintf(stderr, "runner: %s\n", why);

@@ -8,6 +8,7 @@
  * says how many inputs agreed. Exit is 0 only when all did. */
 #define _DEFAULT_SOURCE /* mmap with MAP_ANONYMOUS, alarm */
 #include "interface.h"
+#include "random.h"
 #include "reference.h"
 
 #include <inttypes.h>
@@ -242,15 +243,6 @@ static uint64_t compare_call(const struct call *c) {
 }
 
 /* ---- random parts ---- */
-
-static uint64_t random_state;
-
-static uint64_t random_word(void) { /* splitmix64 */
-    uint64_t z = random_state += UINT64_C(0x9e3779b97f4a7c15);
-    z = (z ^ z >> 30) * UINT64_C(0xbf58476d1ce4e5b9);
-    z = (z ^ z >> 27) * UINT64_C(0x94d049bb133111eb);
-    return z ^ z >> 31;
-}
 
 static uint64_t below(uint64_t bound) { return random_word() % bound; }
 static int one_in(uint64_t bound) { return below(bound) == 0; }

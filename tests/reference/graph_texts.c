@@ -6,6 +6,7 @@
  * Every third text is valid. The others go through the damages below in turn; a damage may
  * leave a text valid. No text that is valid has more than MOST vertices, so that a search takes
  * milliseconds: reference.c reads each text, and a larger one is drawn again. */
+#include "random.h"
 #include "reference.h"
 
 #include <inttypes.h>
@@ -25,15 +26,6 @@ static void fail(const char *what) {
 }
 
 /* ---- random parts ---- */
-
-static uint64_t random_state;
-
-static uint64_t random_word(void) { /* splitmix64 */
-    uint64_t z = random_state += UINT64_C(0x9e3779b97f4a7c15);
-    z = (z ^ z >> 30) * UINT64_C(0xbf58476d1ce4e5b9);
-    z = (z ^ z >> 27) * UINT64_C(0x94d049bb133111eb);
-    return z ^ z >> 31;
-}
 
 static unsigned below(size_t bound) { return (unsigned)(random_word() % bound); }
 static int one_in(unsigned bound) { return below(bound) == 0; }
