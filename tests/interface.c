@@ -183,6 +183,51 @@ static void systems(void)
     printf("calls that ended %ld, filled the list %ld, spent the budget %ld\n", calls[0], calls[1], calls[2]);
 }
 
+/* Random coefficients, with m equations few enough for some zeros. */
+static void random_system(unsigned n, unsigned m)
+{
+    for (size_t i = 0; i < m * VAYUDRIT_MONOMIALS(n); i++)
+        rows[i] = (int8_t)rnd();
+}
+
+/* Whole walks by small, random and huge budgets and by lists about the size of a block and below. */
+static void whole_walks(void)
+{
+    static const size_t lists[] = {1, 2, 26, 27, 28, 0};
+    long walks = 0;
+    for (unsigned n = 1; n <= 9; n++)
+        for (unsigned kind = 0; kind < 5; kind++)
+            for (unsigned k = 0; k < 6; k++) {
+                unsigned m = 1 + (unsigned)(rnd() % (n < 5 ? n : 4));
+                size_t many = kind == 4 ? (size_t)power3(n) : 100;
+                uint64_t stop;
+                random_system(n, m);
+                prepare(n, m, 0, walks);
+                do {
+                    uint64_t budget = kind < 3 ? kind + 1 : kind == 3 ? 1 + rnd() % 200 : UINT64_MAX - rnd() % 3;
+                    stop = call(n, m, budget, lists[k] != 0 ? lists[k] : many, walks);
+                } while (stop != VAYUDRIT_ENDED);
+                walks++;
+            }
+    printf("%ld whole walks\n", walks);
+}
+
+/* At n = 20, about the begin, the powers of three, the middle and the end. */
+static void far_places(void)
+{
+    uint64_t end = power3(20), near[] = {0, 1, 26, 27, 28, power3(10), power3(19), 2 * power3(19), end / 2, end - 120};
+    for (unsigned k = 0; k < sizeof near / sizeof near[0]; k++)
+        for (unsigned m = 2; m <= 64; m += 31) {
+            uint64_t start = near[k] < 40 ? near[k] : near[k] - rnd() % 40;
+            random_system(20, m);
+            prepare(20, m, start, (long)k);
+            for (unsigned calls = 0; calls < 8; calls++)
+                call(20, m, 1 + rnd() % 100, 1 + rnd() % 40, (long)k);
+        }
+    if (call(20, 64, UINT64_MAX, 200, -1) != VAYUDRIT_ENDED)
+        fault("the end of the longest walk", -1);
+}
+
 /* A list of more than several chunks. */
 static void long_list(void)
 {
@@ -321,6 +366,8 @@ static void other_refusals(void)
 int main(void)
 {
     systems();
+    whole_walks();
+    far_places();
     long_list();
     numbers();
     search_refusals();
