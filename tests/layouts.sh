@@ -8,6 +8,9 @@ seed=${SEED:-1} texts=${TEXTS:-612}
 out=$(mktemp -d)
 trap 'rm -rf "$out"' EXIT
 mkdir "$out/tmp" "$out/texts" "$out/expected"
+
+# The first run builds the program, which rt then runs as nobody in the usual temporary folder.
+./layouts examples/triangle.col >"$out/stdout"
 export TMPDIR=$out/tmp # where nothing may be left
 
 checks=0
@@ -35,8 +38,7 @@ gives() {
     passed
 }
 
-# ---- the examples; the first one builds the program ----
-./layouts examples/triangle.col >"$out/stdout"
+# ---- the examples ----
 for file in examples/*.col; do
     case $(head -n 1 "${file%.col}.out") in
     vars*) gives 0 '' ./layouts "$file" ;;

@@ -15,7 +15,7 @@ use Rattle.polynomials.proofs.PolyLaw.{slope-self, slope-above, slope-below}
 use Rattle.tables.specs.Monomials.{countOf, indexOf}
 use Rattle.tables.specs.Words.{entry, Table, polyAt}
 use Rattle.tables.proofs.IndexLaw.{index-lt}
-use Rattle.search.proofs.HoldLaw.{holds-ext, holds-add, holds-times}
+use Rattle.trits.proofs.HoldLaw.{holds-ext, holds-add, holds-times}
 
 -- a legal vector holds its own trits
 pub holds-own : {m : ℕ} (v : Vector) → Legal m v → Holds m (trit v) v

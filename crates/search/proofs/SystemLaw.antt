@@ -27,7 +27,7 @@ use Rattle.tables.proofs.RoundLaw.{coefficients-hold, coefficients-table}
 use Rattle.search.specs.Opened.{systemOf, valueAt, slotOr, slotAt, slotsAt}
 use Rattle.search.specs.Parts.{Slots}
 use Rattle.search.proofs.PlaceLaw.{two}
-use Rattle.search.proofs.HoldLaw.{holds-is}
+use Rattle.trits.proofs.HoldLaw.{holds-is}
 
 -- a value looks at the unknowns below n alone
 pub value-at : (f : Poly) (n : ℕ) (x y : ℕ → ℕ) → ((k : ℕ) → k < n → x k ≡ y k) → valueOf f n x ≡ valueOf f n y

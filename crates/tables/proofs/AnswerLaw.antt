@@ -13,6 +13,7 @@ use Rattle.refusals.specs.declared.Refusal.the-variants.{Size, Length, Pair, Ra
 use Rattle.refusals.specs.declared.Verdict.{Verdict}
 use Rattle.refusals.specs.declared.Verdict.the-variants.{Done, Refused}
 use Rattle.refusals.specs.Refusal.{refuse, sized}
+use Rattle.refusals.proofs.RefusalLaw.{done-test, done-next, refuse-none, sized-within, sized-done, refused-next, refused-last}
 use Rattle.tables.specs.Monomials.{countOf}
 use Rattle.tables.specs.Words.{legalFront, Table, valuesAt}
 use Rattle.tables.specs.Answers.{SizeTest, long, paired, checkedOf, copyVerdict, packVerdict, valued, evaluateOf}
@@ -87,20 +88,8 @@ module _ (n m : ℕ) (from to : List ℕ) (sizes : (v : Verdict) → sized n m v
       copy-done f e h = lengths ∙ pair-passed n m from Done (omega arith)
 
 -- ---- what is known where nothing is refused
-done-not : {r : Refusal} → Refused r ≡ Done → ⊥
-done-not e = let z : _≡_ {A = ℕ} 0 1 = cc in omega arith
-
-pub refuse-done : (b : Bool) (r : Refusal) (v : Verdict) → refuse b r v ≡ Done → (b ≡ false) × (v ≡ Done)
-refuse-done true r v e = absurd (done-not e)
-refuse-done false r v e = (refl, e)
-
-pub sized-done : (n m : ℕ) (v : Verdict) → sized n m v ≡ Done → (1 ≤ n) × (n ≤ 20) × (1 ≤ m) × (m ≤ 64) × (v ≡ Done)
-sized-done n m v e =
-    let a = refuse-done (ltb n 1) Size _ e in
-    let b = refuse-done (ltb 20 n) Size _ (a .1) in
-    let c = refuse-done (ltb m 1) Size _ (b .1) in
-    let d = refuse-done (ltb 64 m) Size v (c .1) in
-    (ltb-false n 1 (a .0), ltb-false 20 n (b .0), ltb-false m 1 (c .0), ltb-false 64 m (d .0), d .1)
+refuse-done : (b : Bool) (r : Refusal) (v : Verdict) → refuse b r v ≡ Done → (b ≡ false) × (v ≡ Done)
+refuse-done b r v e = (done-test b r v e, done-next b r v e)
 
 pub long-done : (n : ℕ) (t : List ℕ) (v : Verdict) → long n t v ≡ Done → (length t ≡ 2 * countOf n) × (v ≡ Done)
 long-done n t v e =
@@ -123,34 +112,24 @@ pub record Ready (n m : ℕ) (from to : List ℕ) : Type 0 where
 
 pub copy-ready : (n m : ℕ) (from to : List ℕ) → copyVerdict n m from to ≡ Done → Ready n m from to
 copy-ready n m from to e =
+    let w = sized-within n m (long n from (long n to (paired n m from Done))) e in
     let a = sized-done n m (long n from (long n to (paired n m from Done))) e in
-    let b = long-done n from (long n to (paired n m from Done)) (a .4) in
+    let b = long-done n from (long n to (paired n m from Done)) a in
     let c = long-done n to (paired n m from Done) (b .1) in
     let d = paired-done n m from Done (b .0) (c .1) in
-    record { least = a .0; most = a .1; table = d .0; room = c .0 }
+    record { least = w .least; most = w .most; table = d .0; room = c .0 }
 
 -- ---- a table judged, and what is asked after it
 pub checked-ready : (n m : ℕ) (t : List ℕ) → checkedOf n m t ≡ Done → (n ≤ 20) × Table n m t
 checked-ready n m t e =
-    let a = sized-done n m (long n t (paired n m t Done)) e in
-    let b = long-done n t (paired n m t Done) (a .4) in
-    (a .1, paired-done n m t Done (b .0) (b .1) .0)
+    let b = long-done n t (paired n m t Done) (sized-done n m (long n t (paired n m t Done)) e) in
+    (sized-within n m (long n t (paired n m t Done)) e .most, paired-done n m t Done (b .0) (b .1) .0)
 
 refuse-then : (b : Bool) (s r : Refusal) (f : Verdict → Verdict) (v : Verdict) → (f Done ≡ Refused r → f v ≡ Refused r) → refuse b s (f Done) ≡ Refused r → refuse b s (f v) ≡ Refused r
-refuse-then true s r f v h e = e
-refuse-then false s r f v h e = h e
-
-last-then : (b : Bool) (s r : Refusal) (v : Verdict) → refuse b s Done ≡ Refused r → refuse b s v ≡ Refused r
-last-then true s r v e = e
-last-then false s r v e = absurd (done-not (sym e))
+refuse-then b s r f v h e = refused-next b s r (f Done) (f v) e h
 
 refuse-pass : (b : Bool) (s : Refusal) (f : Verdict → Verdict) (v : Verdict) → (f Done ≡ Done → f v ≡ v) → refuse b s (f Done) ≡ Done → refuse b s (f v) ≡ v
-refuse-pass true s f v h e = absurd (done-not e)
-refuse-pass false s f v h e = h e
-
-last-pass : (b : Bool) (s : Refusal) (v : Verdict) → refuse b s Done ≡ Done → refuse b s v ≡ v
-last-pass true s v e = absurd (done-not e)
-last-pass false s v e = refl
+refuse-pass b s f v h e = refuse-none b s (f v) (done-test b s (f Done) e) ∙ h (done-next b s (f Done) e)
 
 abbrev then : ℕ → ℕ → List ℕ → Verdict → Verdict
 then n m t v = sized n m (long n t (paired n m t v))
@@ -163,7 +142,7 @@ checked-refused n m t r v =
     (refuse-then (ltb m 1) Size r (λ u. refuse (ltb 64 m) Size (long n t (paired n m t u))) v
     (refuse-then (ltb 64 m) Size r (λ u. long n t (paired n m t u)) v
     (refuse-then (not (eqb (length t) (2 * countOf n))) Length r (λ u. paired n m t u) v
-    (last-then (ltb (legalFront m t) (countOf n)) Pair r v)))))
+    (refused-last (ltb (legalFront m t) (countOf n)) Pair r v)))))
 
 pub checked-passed : (n m : ℕ) (t : List ℕ) (v : Verdict) → checkedOf n m t ≡ Done → then n m t v ≡ v
 checked-passed n m t v =
@@ -172,7 +151,7 @@ checked-passed n m t v =
     (refuse-pass (ltb m 1) Size (λ u. refuse (ltb 64 m) Size (long n t (paired n m t u))) v
     (refuse-pass (ltb 64 m) Size (λ u. long n t (paired n m t u)) v
     (refuse-pass (not (eqb (length t) (2 * countOf n))) Length (λ u. paired n m t u) v
-    (last-pass (ltb (legalFront m t) (countOf n)) Pair v)))))
+    (λ e. refuse-none (ltb (legalFront m t) (countOf n)) Pair v (done-test (ltb (legalFront m t) (countOf n)) Pair Done e))))))
 
 -- evaluation, case by case
 pub value-refused : (n m : ℕ) (t : List ℕ) (x : ℕ) (r : Refusal) → checkedOf n m t ≡ Refused r → evaluateOf n m t x ≡ evaluated.Refused r

@@ -6,3 +6,4 @@ pub mod LegalLaw
 pub mod ExtLaw
 pub mod PutLaw
 pub mod WordLaw
+pub mod HoldLaw
