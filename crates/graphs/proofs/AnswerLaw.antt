@@ -14,7 +14,7 @@ use Rattle.graphs.specs.declared.reading.Finding.{Finding}
 use Rattle.graphs.specs.declared.reading.Finding.the-variants.{Fine}
 use Rattle.graphs.specs.Reading.{linesOf, Ends, start, Outcome, graph, refused, readLines, outcomeOf}
 use Rattle.graphs.specs.Equations.{systemOf}
-use Rattle.graphs.specs.Answers.{answerOf, wordsAfter, endsOf, foundOf}
+use Rattle.graphs.specs.Answers.{answerOf, wordsAfter, readTold, outcomeTold, endsOf, foundOf}
 use Rattle.graphs.specs.Parts.{Edged, Drawn}
 use Rattle.graphs.proofs.ReadLaw.{length-ends, ends-at}
 use Rattle.graphs.proofs.SoundLaw.{lines-drawn, text-drawn}
@@ -34,20 +34,30 @@ module _ (t : List ℕ) (w : ℕ) where
   outcome-lines h l = rw (le-ltb 32768 (length t) h, le-ltb w 462 l)
 
 -- ---- answers
-pub answer-refused : (o : Outcome) (r : GraphFault) (k : ℕ) (old : List ℕ) → o ≡ refused r k → (answer.Refused r k ≡ answerOf o) × (old ≡ wordsAfter o old)
+-- an answer tells document 01's number and values
+told : (o : Outcome) → readTold (answerOf o) ≡ outcomeTold o
+told (graph v es) = refl
+told (refused r k) = refl
+
+pub answer-refused : (o : Outcome) (r : GraphFault) (k : ℕ) (old : List ℕ) → o ≡ refused r k
+    → (answer.Refused r k ≡ answerOf o) × (old ≡ wordsAfter o old) × (readTold (answer.Refused r k) ≡ outcomeTold o)
 unfolding wordsAfter
-answer-refused o r k old e = (sym (ap answerOf e), sym (ap (λ (x : Outcome). wordsAfter x old) e))
+answer-refused o r k old e =
+    let a : answer.Refused r k ≡ answerOf o = sym (ap answerOf e) in
+    (a, sym (ap (λ (x : Outcome). wordsAfter x old) e), ap readTold a ∙ told o)
 
 after-graph : (v : ℕ) (es : List Ends) (old : List ℕ) → wordsAfter (graph v es) old ≡ wordsOf v (length es) (systemOf es) ++ drop (2 * countOf v) old
 unfolding wordsAfter
 after-graph v es old = refl
 
 pub answer-graph : (o : Outcome) (v k used : ℕ) (es : List Ends) (new old : List ℕ) → o ≡ graph v es → length es ≡ k → new ≡ wordsOf v k (systemOf es) → used ≡ 2 * countOf v
-    → (answer.Graph v k ≡ answerOf o) × (new ++ drop used old ≡ wordsAfter o old)
-answer-graph o v k used es new old e l n u = (
-  sym (ap answerOf e ∙ ap (answer.Graph v) l),
-  ap₂ (λ (x : List ℕ) (y : ℕ). x ++ drop y old) (n ∙ ap (λ (j : ℕ). wordsOf v j (systemOf es)) (sym l)) u ∙ sym (ap (λ (x : Outcome). wordsAfter x old) e ∙ after-graph v es old),
-)
+    → (answer.Graph v k ≡ answerOf o) × (new ++ drop used old ≡ wordsAfter o old) × (readTold (answer.Graph v k) ≡ outcomeTold o)
+answer-graph o v k used es new old e l n u =
+    let a : answer.Graph v k ≡ answerOf o = sym (ap answerOf e ∙ ap (answer.Graph v) l) in (
+      a,
+      ap₂ (λ (x : List ℕ) (y : ℕ). x ++ drop y old) (n ∙ ap (λ (j : ℕ). wordsOf v j (systemOf es)) (sym l)) u ∙ sym (ap (λ (x : Outcome). wordsAfter x old) e ∙ after-graph v es old),
+      ap readTold a ∙ told o,
+    )
 
 -- ---- the graph that was read
 pub found-drawn : (t : List ℕ) (f : Finding) (k v : ℕ) (es : List Ends) → foundOf f k v es ≡ readLines 1 start (linesOf t) → f ≡ Fine → Drawn v es

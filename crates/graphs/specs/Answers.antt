@@ -11,13 +11,23 @@ use Rattle.graphs.specs.declared.reading.Finding.{Finding}
 use Rattle.graphs.specs.declared.reading.Finding.the-variants.{Fine, Fault}
 use Rattle.graphs.specs.declared.reading.Graph.{Graph}
 use Rattle.graphs.specs.declared.reading.Scan.{Scan}
-use Rattle.graphs.specs.Reading.{Ends, State, start, declared, Outcome, graph, refused}
+use Rattle.graphs.specs.Reading.{Ends, State, start, declared, Outcome, graph, refused, faultNumber}
 use Rattle.graphs.specs.Equations.{systemOf}
 
 -- the answer: n and m, or why not and the line
 abbrev pub answerOf : Outcome → ReadAnswer
 answerOf (graph v es) = answer.Graph v (length es)
 answerOf (refused r k) = answer.Refused r k
+
+-- document 01's number and values of an answer: 0, n and m; or the refusal's number and its line
+abbrev pub readTold : ReadAnswer → List ℕ
+readTold (answer.Graph n m) = 0 ∷ n ∷ m ∷ []
+readTold (answer.Refused r k) = faultNumber r ∷ k ∷ []
+
+-- what has to be told of a text
+abbrev pub outcomeTold : Outcome → List ℕ
+outcomeTold (graph v es) = 0 ∷ v ∷ length es ∷ []
+outcomeTold (refused r k) = faultNumber r ∷ k ∷ []
 
 -- the words after: the coefficient words first and the rest as it was; on a refusal all as they were
 unfoldable pub wordsAfter : Outcome → List ℕ → List ℕ

@@ -6,7 +6,7 @@ use crate::reading::read_lines;
 ghost use mathlib.Core.Path.{_≡_};
 ghost use lib.ListN.{length};
 ghost use Rattle.graphs.specs.Reading.{faultNumber, outcomeOf};
-ghost use Rattle.graphs.specs.Answers.{answerOf, wordsAfter};
+ghost use Rattle.graphs.specs.Answers.{answerOf, wordsAfter, readTold, outcomeTold};
 
 mod equations;
 mod lines;
@@ -54,7 +54,8 @@ pub enum ReadAnswer {
 // Reads a graph file and writes its coefficient words to the front of the words lent. A refusal writes nothing.
 pub fn read(text: &[u8], words: &mut [u64]) -> ReadAnswer
     ensures { λ r. ⌜ (r ≡ answerOf (outcomeOf (now (text .entry)) (length (now (words .entry)))))
-        × (now (words .exit) ≡ wordsAfter (outcomeOf (now (text .entry)) (length (now (words .entry)))) (now (words .entry))) ⌝ }
+        × (now (words .exit) ≡ wordsAfter (outcomeOf (now (text .entry)) (length (now (words .entry)))) (now (words .entry)))
+        × (readTold r ≡ outcomeTold (outcomeOf (now (text .entry)) (length (now (words .entry))))) ⌝ }
 {
     if text.len() > 32768 {
         return ReadAnswer::Refused {

@@ -2,7 +2,7 @@
 use mathlib.Core.Path.{_≡_, refl, sym, ap, _∙_}
 use mathlib.Core.Bool.{Bool, true, false, not, _&&_}
 use mathlib.Core.List.{List}
-use Prim.Native.Nat.{ℕ, _*_, _^_, _≤_, _<_}
+use Prim.Native.Nat.{ℕ, _+_, _*_, _^_, _≤_, _<_}
 use lib.Dec.{eqb, leb, ltb}
 use lib.ListN.{length}
 use borrow.Author.Tests.{le-leb, leb-true, lt-ltb, le-ltb, eq-eqb, ne-eqb}
@@ -10,7 +10,7 @@ use Rattle.refusals.specs.declared.Refusal.{Refusal}
 use Rattle.refusals.specs.declared.Refusal.the-variants as refusal
 use Rattle.refusals.specs.declared.Verdict.{Verdict}
 use Rattle.refusals.specs.declared.Verdict.the-variants as verdict
-use Rattle.refusals.specs.Refusal.{refuse, sized, after}
+use Rattle.refusals.specs.Refusal.{codeOf, refuse, sized, after}
 use Rattle.refusals.proofs.RefusalLaw.{done-test, done-next, refuse-none, refused-next, refused-last, Within, sized-within, sized-next, sized-done}
 use Rattle.tables.specs.Monomials.{countOf}
 use Rattle.tables.specs.Words.{legalFront}
@@ -18,10 +18,11 @@ use Rattle.tables.specs.Answers.{long, paired, checkedOf}
 use Rattle.search.specs.declared.Record.{Record}
 use Rattle.search.specs.declared.Opened.{Opened}
 use Rattle.search.specs.Opened.{openedAt, noRecord, refusedOpen, openOf}
-use Rattle.search.specs.Search.{trailOf, sameRecord, fits, searchVerdict, answerFrom, ranOf, outcomeFrom, outcomeOf, listOf}
+use Rattle.search.specs.Search.{trailOf, sameRecord, fits, searchVerdict, answerFrom, ranOf, outcomeFrom, outcomeOf, listOf, answerNumber, answerValues, valuesFrom, Tells}
 use Rattle.search.specs.declared.Outcome.{Outcome}
 use Rattle.search.specs.declared.Answer.the-variants.{Ran, Refused}
-use Rattle.walks.specs.Calls.{listAfter}
+use Rattle.walks.specs.Calls.{pointsIn, reportOf, listAfter}
+use Rattle.walks.specs.declared.Report.{Report}
 use Rattle.search.proofs.RecordLaw.{record-self}
 
 -- the last two questions
@@ -121,3 +122,14 @@ module _ (n m : ℕ) (t : List ℕ) (r : Record) (b : ℕ) (l : List ℕ) (e : c
           eo ∙ sym (ap (λ (v : Verdict). outcomeFrom v r (ranOf n m t (r .place .0) b (length l))) d),
           ek ∙ sym (ap (λ (v : Verdict). after v l (listAfter (trailOf n m t) b (r .place .0) l)) d),
         )
+
+-- an answer tells document 01's number and values
+tells-by : (v : Verdict) (e : ℕ) (w : Report) (o : Record) → (answerNumber (answerFrom v (record { answer = Ran w; «record» = o })) ≡ codeOf v)
+    × (answerValues e (answerFrom v (record { answer = Ran w; «record» = o })) ≡ valuesFrom v e w)
+tells-by verdict.Done e w o = (refl, refl)
+tells-by (verdict.Refused f) e w o = (refl, refl)
+
+pub tells-of : (n m : ℕ) (t : List ℕ) (r : Record) (b : ℕ) (l : List ℕ) (o : Outcome) → o ≡ outcomeOf n m t r b l → Tells n m t r b l (o .answer)
+tells-of n m t r b l o e =
+    let k = tells-by (searchVerdict n m t r b l) (3 ^ n) (reportOf (trailOf n m t) b (length l) (r .place .0)) (openedAt n m t (r .place .0 + pointsIn (trailOf n m t) b (length l) (r .place .0))) in
+    record { number = ap (λ (y : Outcome). answerNumber (y .answer)) e ∙ k .0; values = ap (λ (y : Outcome). answerValues (3 ^ n) (y .answer)) e ∙ k .1 }

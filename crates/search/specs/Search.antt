@@ -1,4 +1,5 @@
 -- What one call of the search gives, for every table, record, budget and list whatever.
+use mathlib.Core.Path.{_≡_}
 use mathlib.Core.Bool.{Bool, true, false, not, _&&_}
 use mathlib.Core.List.{List, [], _∷_}
 use Prim.Native.Nat.{ℕ, _+_, _^_}
@@ -7,10 +8,10 @@ use lib.ListN.{length}
 use Rattle.refusals.specs.declared.Refusal.the-variants as refusal
 use Rattle.refusals.specs.declared.Verdict.{Verdict}
 use Rattle.refusals.specs.declared.Verdict.the-variants as verdict
-use Rattle.refusals.specs.Refusal.{numberOf, refuse, sized, after}
+use Rattle.refusals.specs.Refusal.{numberOf, codeOf, refuse, sized, after}
 use Rattle.trits.specs.declared.Vector.{Vector}
 use Rattle.tables.specs.Answers.{long, paired}
-use Rattle.walks.specs.Calls.{Trail, pointsIn, reportOf, listAfter}
+use Rattle.walks.specs.Calls.{Trail, pointsIn, stopNumber, stopPlace, reportOf, listAfter}
 use Rattle.walks.specs.declared.Report.{Report}
 use Rattle.walk.specs.Meaning.{trailOf as walkTrail}
 use Rattle.search.specs.declared.Record.{Record}
@@ -77,3 +78,17 @@ listOf n m t r b l = after (searchVerdict n m t r b l) l (listAfter (trailOf n m
 abbrev pub answerNumber : Answer → ℕ
 answerNumber (Ran r) = 0
 answerNumber (Refused f) = numberOf f
+
+-- and its values, for a walk that ends at place e: stop, place, points, additions and found; none with a refusal
+abbrev pub answerValues : ℕ → Answer → List ℕ
+answerValues e (Ran r) = stopNumber (r .stop) ∷ stopPlace e (r .stop) ∷ r .points ∷ r .additions ∷ r .found ∷ []
+answerValues e (Refused f) = []
+
+-- what a call has to tell by them
+abbrev pub valuesFrom : Verdict → ℕ → Report → List ℕ
+valuesFrom verdict.Done e w = stopNumber (w .stop) ∷ stopPlace e (w .stop) ∷ w .points ∷ w .additions ∷ w .found ∷ []
+valuesFrom (verdict.Refused f) e w = []
+
+pub record Tells (n m : ℕ) (t : List ℕ) (r : Record) (b : ℕ) (l : List ℕ) (a : Answer) : Type 0 where
+  pub number : answerNumber a ≡ codeOf (searchVerdict n m t r b l)
+  pub values : answerValues (3 ^ n) a ≡ valuesFrom (searchVerdict n m t r b l) (3 ^ n) (reportOf (trailOf n m t) b (length l) (r .place .0))

@@ -17,7 +17,7 @@ ghost use lib.ListN.{length};
 ghost use Rattle.refusals.specs.declared.Verdict.the-variants.{Done};
 ghost use Rattle.tables.specs.Answers.{checkedOf};
 ghost use Rattle.walks.specs.Calls.{listAfter};
-ghost use Rattle.search.specs.Search.{trailOf, fits, ranOf, outcomeOf, listOf};
+ghost use Rattle.search.specs.Search.{trailOf, fits, ranOf, outcomeOf, listOf, Tells};
 ghost use Rattle.search.specs.Parts.{stopFrom, reportedOf};
 
 // Whether a record is that of a checked table at its place.
@@ -131,7 +131,8 @@ fn search_checked(
 // One call: at most budget points from the record's place on, each common zero's point listed from the front of list.
 pub fn search(n: u64, m: u64, table: &[u64], r: Record, budget: u64, list: &mut [u64]) -> Outcome
     ensures { λ o. ⌜ (o ≡ outcomeOf n m (now (table .entry)) r budget (now (list .entry)))
-        × (now (list .exit) ≡ listOf n m (now (table .entry)) r budget (now (list .entry))) ⌝ }
+        × (now (list .exit) ≡ listOf n m (now (table .entry)) r budget (now (list .entry)))
+        × Tells n m (now (table .entry)) r budget (now (list .entry)) (o .answer) ⌝ }
 {
     let verdict = tables::check(n, m, table);
     match verdict {

@@ -3,7 +3,7 @@ use crate::Answer;
 use crate::Record;
 use crate::calls::search;
 ghost use mathlib.Core.Path.{_≡_};
-ghost use Rattle.search.specs.Search.{outcomeOf, listOf};
+ghost use Rattle.search.specs.Search.{outcomeOf, listOf, Tells};
 
 // One call with the record lent: it comes back moved on, or as it was where the call is refused.
 pub fn search_lent(
@@ -16,7 +16,8 @@ pub fn search_lent(
 ) -> Answer
     ensures { λ a. ⌜ (a ≡ outcomeOf n m (now (table .entry)) (now («record» .entry)) budget (now (list .entry)) .answer)
         × (now («record» .exit) ≡ outcomeOf n m (now (table .entry)) (now («record» .entry)) budget (now (list .entry)) .«record»)
-        × (now (list .exit) ≡ listOf n m (now (table .entry)) (now («record» .entry)) budget (now (list .entry))) ⌝ }
+        × (now (list .exit) ≡ listOf n m (now (table .entry)) (now («record» .entry)) budget (now (list .entry)))
+        × Tells n m (now (table .entry)) (now («record» .entry)) budget (now (list .entry)) a ⌝ }
 {
     let r = *record;
     let o = search(n, m, table, r, budget, list);

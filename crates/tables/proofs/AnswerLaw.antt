@@ -12,11 +12,13 @@ use Rattle.refusals.specs.declared.Refusal.{Refusal}
 use Rattle.refusals.specs.declared.Refusal.the-variants.{Size, Length, Pair, Range}
 use Rattle.refusals.specs.declared.Verdict.{Verdict}
 use Rattle.refusals.specs.declared.Verdict.the-variants.{Done, Refused}
-use Rattle.refusals.specs.Refusal.{refuse, sized}
+use Rattle.refusals.specs.Refusal.{codeOf, refuse, sized}
 use Rattle.refusals.proofs.RefusalLaw.{done-test, done-next, refuse-none, sized-within, sized-done, refused-next, refused-last}
 use Rattle.tables.specs.Monomials.{countOf}
 use Rattle.tables.specs.Words.{legalFront, Table, valuesAt}
-use Rattle.tables.specs.Answers.{SizeTest, long, paired, checkedOf, copyVerdict, packVerdict, valued, evaluateOf}
+use Rattle.tables.specs.Answers.{SizeTest, long, paired, checkedOf, copyVerdict, packVerdict, evaluateVerdict, valued, evaluateOf, evaluatedCode, evaluatedWords, wordsFrom, Tells}
+use Rattle.trits.specs.declared.Vector.{Vector}
+use Rattle.tables.specs.declared.Evaluated.{Evaluated}
 use Rattle.tables.specs.declared.Evaluated.the-variants as evaluated
 use Rattle.tables.proofs.WordLaw.{front-of}
 
@@ -152,6 +154,16 @@ checked-passed n m t v =
     (refuse-pass (ltb 64 m) Size (λ u. long n t (paired n m t u)) v
     (refuse-pass (not (eqb (length t) (2 * countOf n))) Length (λ u. paired n m t u) v
     (λ e. refuse-none (ltb (legalFront m t) (countOf n)) Pair v (done-test (ltb (legalFront m t) (countOf n)) Pair Done e))))))
+
+-- an evaluation tells document 01's number and values
+tells-by : (v : Verdict) (w : Vector) → (evaluatedCode (valued v w) ≡ codeOf v) × (evaluatedWords (valued v w) ≡ wordsFrom v w)
+tells-by Done w = (refl, refl)
+tells-by (Refused r) w = (refl, refl)
+
+pub tells-of : (n m : ℕ) (c : List ℕ) (x : ℕ) (r : Evaluated) → r ≡ evaluateOf n m c x → Tells n m c x r
+tells-of n m c x r e =
+    let k = tells-by (evaluateVerdict n m c x) (valuesAt n m c x) in
+    record { number = ap evaluatedCode e ∙ k .0; values = ap evaluatedWords e ∙ k .1 }
 
 -- evaluation, case by case
 pub value-refused : (n m : ℕ) (t : List ℕ) (x : ℕ) (r : Refusal) → checkedOf n m t ≡ Refused r → evaluateOf n m t x ≡ evaluated.Refused r

@@ -1,7 +1,7 @@
 -- What each operation on tables answers, and what it leaves in the table that it was lent. Refusals in document 01's order.
 use mathlib.Core.Path.{_≡_}
 use mathlib.Core.Bool.{Bool, true, false, not}
-use mathlib.Core.List.{List}
+use mathlib.Core.List.{List, [], _∷_}
 use Prim.Native.Nat.{ℕ, _*_, _^_, _≤_}
 use lib.Dec.{eqb, ltb, leb}
 use lib.IntN.{ℤ}
@@ -9,7 +9,7 @@ use lib.ListN.{length}
 use Rattle.refusals.specs.declared.Refusal.the-variants.{Size, Length, Pair, Range}
 use Rattle.refusals.specs.declared.Verdict.{Verdict}
 use Rattle.refusals.specs.declared.Verdict.the-variants.{Done, Refused}
-use Rattle.refusals.specs.Refusal.{numberOf, refuse, sized, after}
+use Rattle.refusals.specs.Refusal.{numberOf, codeOf, refuse, sized, after}
 use Rattle.tables.specs.declared.Evaluated.{Evaluated}
 use Rattle.tables.specs.declared.Evaluated.the-variants as evaluated
 use Rattle.trits.specs.declared.Vector.{Vector}
@@ -68,3 +68,17 @@ evaluateOf n m c x = valued (evaluateVerdict n m c x) (valuesAt n m c x)
 abbrev pub evaluatedCode : Evaluated → ℕ
 evaluatedCode (evaluated.Value v) = 0
 evaluatedCode (evaluated.Refused r) = numberOf r
+
+-- and its values: high and low word, or none
+abbrev pub evaluatedWords : Evaluated → List ℕ
+evaluatedWords (evaluated.Value v) = v .high ∷ v .low ∷ []
+evaluatedWords (evaluated.Refused r) = []
+
+abbrev pub wordsFrom : Verdict → Vector → List ℕ
+wordsFrom Done v = v .high ∷ v .low ∷ []
+wordsFrom (Refused r) v = []
+
+-- what an evaluation has to tell by them
+pub record Tells (n m : ℕ) (c : List ℕ) (x : ℕ) (r : Evaluated) : Type 0 where
+  pub number : evaluatedCode r ≡ codeOf (evaluateVerdict n m c x)
+  pub values : evaluatedWords r ≡ wordsFrom (evaluateVerdict n m c x) (valuesAt n m c x)

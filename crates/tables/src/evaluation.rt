@@ -18,7 +18,7 @@ ghost use Rattle.gray.specs.Numbers.{digit};
 ghost use Rattle.polynomials.specs.Poly.{valueOf};
 ghost use Rattle.tables.specs.Monomials.{countOf};
 ghost use Rattle.tables.specs.Words.{Table, polyAt, rowOf};
-ghost use Rattle.tables.specs.Answers.{evaluateOf};
+ghost use Rattle.tables.specs.Answers.{evaluateOf, Tells};
 
 // The 20 lowest digits of a point.
 pub fn digits(x: u64) -> [u64; 20]
@@ -67,7 +67,7 @@ pub fn value_at(table: &[u64], n: usize, x: &[u64; 20]) -> Vector
 
 // The value of each equation at a point.
 pub fn evaluate(n: u64, m: u64, coefficients: &[u64], x: Point) -> Evaluated
-    ensures { λ r. ⌜ r ≡ evaluateOf n m (now (coefficients .entry)) (x .0) ⌝ }
+    ensures { λ r. ⌜ (r ≡ evaluateOf n m (now (coefficients .entry)) (x .0)) × Tells n m (now (coefficients .entry)) (x .0) r ⌝ }
 {
     let verdict = check(n, m, coefficients);
     match verdict {

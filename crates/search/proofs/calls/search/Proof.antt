@@ -1,6 +1,6 @@
 -- `search::calls::search` meets its contract: by the verdict on the table.
 use mathlib.Core.Path.{_≡_, sym, ap, _∙_}
-use Rattle.search.proofs.VerdictLaw.{away-table}
+use Rattle.search.proofs.VerdictLaw.{away-table, tells-of}
 use borrow.Author.Needs.{needs}
 use Rattle.search.proofs.calls.search.Statement.{statement}
 use Rattle.search.proofs.calls.search.Tie as tie
@@ -35,7 +35,8 @@ returns : tie.Need-returns
 returns c =
     let s = c .before .before .before .before .before .before .before in
     let a = away-table (s .args .n) (s .args .m) (s .args .table .now) (s .args .r) (s .args .budget) (s .args .list .now) _ (sym (c .before .before .before .before .check .ensures) ∙ c .before .before .verdict .given .1) in
-    (c .turned-away .ensures ∙ a .0, a .1)
+    let e = c .turned-away .ensures ∙ a .0 in
+    (e, a .1, tells-of (s .args .n) (s .args .m) (s .args .table .now) (s .args .r) (s .args .budget) (s .args .list .now) _ e)
 
 -- src/calls.rt:123:1
 same-length : tie.Need-same-length
@@ -43,7 +44,10 @@ same-length c = search needs
 
 -- src/calls.rt:123:1
 returns-2 : tie.Need-returns-2
-returns-2 c = search needs
+returns-2 c =
+    let s = c .before .before .before .before .before .before .before .before .before in
+    let k = c .before .before .search-checked in
+    (k .ensures .0, k .ensures .1, tells-of (s .args .n) (s .args .m) (s .args .table .now) (s .args .r) (s .args .budget) (s .args .list .now) _ (k .ensures .0))
 
 pub search-spec : {M : Type 1} → statement M
 search-spec =

@@ -40,7 +40,7 @@ use denote.Triple.Table.{entered, cited}
 use denote.Triple.Walked.{says, Stays, stay-ref, stay-none, stay-none-slice, gave-slice, walkOf, goes-ref, goes-none, goes-none-slice, goes-gave-slice, Walks, ends-at, walked, walk-meets}
 use denote.Exit.{yes}
 use denote.Signature.{plain}
-use Rattle.search.specs.Search.{outcomeOf, listOf}
+use Rattle.search.specs.Search.{outcomeOf, listOf, Tells}
 use Rattle.search.specs.declared.Record.{Record}
 use Rattle.search.specs.declared.Answer.{Answer}
 use Rattle.search.specs.declared.Outcome.{Outcome}
@@ -121,14 +121,14 @@ module _ {M : Type 1} (𝓤 : URA M) (H : Heap 𝓤) (A : Atoms 𝓤) (W : Given
 
   -- what the core says of its result and of the list
   abbrev Says : Outcome → List ℕ → Type 0
-  Says r zs = (r ≡ outcomeOf n m (t .now) h k ys) × (zs ≡ listOf n m (t .now) h k ys)
+  Says r zs = (r ≡ outcomeOf n m (t .now) h k ys) × (zs ≡ listOf n m (t .now) h k ys) × Tells n m (t .now) h k ys (r .answer)
 
   exits : (r : Outcome) (zs : List ℕ) → Says r zs → length zs ≡ length ys
       → ent 𝓤 (⋆ 𝓤 H A (‵ (flft κ₀ q₀) ∷ ‵ (flft κ₁ q₁) ∷ (‵ (flft κ₂ q₂) ⊛ ‵ ftrue) ∷ ‵ OwnT ∷ ‵ (fobs γ (R .coded .code (r .«record»))) ∷ ‵ (fbor κ₁ (Body (mem R) b o γ)) ∷ ‵ (finally u64 γ′ zs) ∷ ‵ (N.the-row .own (r .answer) (answer-val (r .answer) ∷ [])) ∷ [])) (Post (answer-val (r .answer)))
   exits r zs e l =
       qed W (‵ (flft κ₀ q₀) ∷ ‵ (flft κ₁ q₁) ∷ (‵ (flft κ₂ q₂) ⊛ ‵ ftrue) ∷ ‵ OwnT ∷ ‵ (fobs γ (R .coded .code (r .«record»))) ∷ ‵ (fbor κ₁ (Body (mem R) b o γ)) ∷ ‵ (finally u64 γ′ zs) ∷ ‵ (N.the-row .own (r .answer) (answer-val (r .answer) ∷ [])) ∷ []) ∵
       suffices ! _ (ends-at 𝓤 H A lent.ended stayed (lent.clauses 𝓤 H A at-mem run) W (((κ₀, (κ₁, (κ₂, tt))), (q₀, (q₁, (q₂, tt))), tt, a, vals), tt) (answer-val (r .answer)) (r .answer) (tt, (tt, (tt, (r .«record», (tt, (zs, tt)))))) (tt, (tt, (tt, (tt, (tt, (l, tt))))))) $
-      says ! (ap (λ (y : Outcome). y .answer) (e .0), ap (λ (y : Outcome). y .«record») (e .0), e .1) $
+      says ! (ap (λ (y : Outcome). y .answer) (e .0), ap (λ (y : Outcome). y .«record») (e .0), e .1, e .2) $
       -- [κ₀; κ₁; κ₂ true; OwnT; obs; bor; finally; the answer]
       move ! (1 ∷ 2 ∷ []) $ join ! $ move ! (1 ∷ 0 ∷ []) $ join ! $ frame ! $
       -- [OwnT; obs; bor; finally; the answer]

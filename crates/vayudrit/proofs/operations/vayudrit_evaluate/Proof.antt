@@ -60,7 +60,7 @@ returns-2 c =
     let w = c .before .before .before .before .before .before .before .room-for in
     let h = room-done (a .n) (a .m) (length (a .value .now)) 2 (sym (w .ensures) ∙ code-zero (w .result) (sym (c .before .before .before .before .before .before .code .ensures) ∙ c .before .before .before .before .before .if1 .left)) in
     let u = evaluateVerdict (a .n) (a .m) (a .coefficients .now) (a .point) in
-    let g = c .before .before .before .before .evaluate .ensures in
+    let g = c .before .before .before .before .evaluate .ensures .0 in
     let p = c .before .before .put-value .ensures in
     let q = value-meets u (valuesAt (a .n) (a .m) (a .coefficients .now) (a .point)) (a .value .now) in
     moved (room (a .n) (a .m) (length (a .value .now)) 2 u) u (h .1 u) _ _ (a .value .now) (vectorWords (valuesAt (a .n) (a .m) (a .coefficients .now) (a .point)))
