@@ -32,7 +32,7 @@ use Rattle.search.specs.Search.{trailOf}
 use Rattle.search.proofs.VerdictLaw.{checked-next}
 use Rattle.search.proofs.DemandLaw.{end-is, cost-all}
 use Rattle.layouts.specs.declared.session.Session.{Session}
-use Rattle.layouts.specs.Text.{layoutLines, headLine, totalsLine, refusalLine}
+use Rattle.texts.specs.Text.{layoutLines, headLine, totalsLine, refusalLine}
 use Rattle.layouts.specs.Output.{layoutsIn, writtenFor, outputOf, leftFrom, leftIf, leftOf, Begun}
 use Rattle.layouts.specs.Parts.{Refuses, Startable, Started}
 use Rattle.layouts.proofs.GraphLaw.{zeros-layouts}

@@ -1,4 +1,3 @@
-pub mod TextLaw
 pub mod GraphLaw
 pub mod NextLaw
 pub mod BeginLaw

@@ -1,4 +1,3 @@
-pub mod Text
 pub mod Output
 pub mod Parts
 pub mod Cases

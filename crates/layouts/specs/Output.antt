@@ -14,7 +14,7 @@ use Rattle.walks.specs.Calls.{Trail, listed, zerosIn, costIn}
 use Rattle.search.specs.Search.{trailOf}
 use Rattle.search.specs.Opened.{openedAt}
 use Rattle.layouts.specs.declared.session.Session.{Session}
-use Rattle.layouts.specs.Text.{layoutLines, headLine, totalsLine, refusalLine}
+use Rattle.texts.specs.Text.{layoutLines, headLine, totalsLine, refusalLine}
 
 -- ---- for planners
 -- whether the ends of every edge differ at the point of place p

@@ -12,7 +12,6 @@ ghost use Rattle.layouts.specs.Output.{Standing};
 ghost use Rattle.layouts.specs.Parts.{bytesOf};
 
 mod session;
-mod text;
 
 // At most so many points a call, so that progress shows: 2^26.
 const BUDGET: u64 = 67108864;

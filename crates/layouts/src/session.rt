@@ -1,6 +1,5 @@
 // The whole search of one graph file, a text at a time: what `begin` and each `next` leave in the text, joined, is the program's output.
 // Contracts cite specs/Output (the output of an input, and what is left of it between two calls) and specs/Parts.
-use crate::text;
 use graphs::ReadAnswer;
 use gray::Place;
 use search::Answer;
@@ -43,7 +42,7 @@ fn refused(number: u64, line: u64, text: &mut [u8]) -> Session
     requires { ⌜ 55 ≤ length (now text) ⌝ }
     ensures { λ r. ⌜ Refuses number line (now (text .exit)) r ⌝ }
 {
-    let used = text::put_refusal(text, number, line);
+    let used = texts::put_refusal(text, number, line);
     Session {
         n: 0,
         m: 0,
@@ -64,7 +63,7 @@ fn start(n: u64, m: u64, words: &[u64], table: &mut [u64], text: &mut [u8]) -> S
     tables::differences(n, m, words, table);
     let o = search::open(n, m, table, Place(0));
     let first = o.record;
-    let used = text::put_head(text, n, m);
+    let used = texts::put_head(text, n, m);
     Session {
         n,
         m,
@@ -116,7 +115,7 @@ fn tell(s: Session, record: Record, report: Report, points: &[u64], text: &mut [
     let found = s.found + report.found;
     let place = s.points + report.points;
     let over = ended(stop);
-    let used = text::put_layouts(text, s.n, points);
+    let used = texts::put_layouts(text, s.n, points);
     if !over {
         return Session {
             n: s.n,
@@ -129,7 +128,7 @@ fn tell(s: Session, record: Record, report: Report, points: &[u64], text: &mut [
             open: true,
         };
     }
-    let last = text::put_totals(text, used, place, additions, found);
+    let last = texts::put_totals(text, used, place, additions, found);
     Session {
         n: s.n,
         m: s.m,

@@ -3,7 +3,7 @@ use gray::Point;
 ghost use mathlib.Core.Path.{_≡_};
 ghost use Prim.Native.Nat.{_+_, _*_, _≤_, _<_};
 ghost use lib.ListN.{length, drop};
-ghost use Rattle.layouts.specs.Text.{Put, decimalOf, digitsOf, layoutLine, layoutLines, headLine, totalsLine, refusalLine};
+ghost use Rattle.texts.specs.Text.{Put, decimalOf, digitsOf, layoutLine, layoutLines, headLine, totalsLine, refusalLine};
 
 // Bytes as they are.
 fn put(text: &mut [u8], at: usize, s: &[u8]) -> usize

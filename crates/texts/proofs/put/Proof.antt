@@ -1,13 +1,13 @@
--- `layouts::text::put` meets its contract: the bytes that are left follow those that stand.
+-- `texts::put` meets its contract: the bytes that are left follow those that stand.
 use mathlib.Core.Path.{_≡_, refl, ap, _∙_}
 use mathlib.Core.List.{_++_}
 use Prim.Native.Nat.{ℕ, _+_, _-_, _≤_}
 use native.Mathlib.Omega.{arith}
 use borrow.Author.Needs.{needs}
 use lib.ListN.{length, take, drop}
-use Rattle.layouts.proofs.TextLaw.{put-is, copy-turn, drop-all, none-left}
-use Rattle.layouts.proofs.text.put.Statement.{statement}
-use Rattle.layouts.proofs.text.put.Tie as tie
+use Rattle.texts.proofs.TextLaw.{put-is, copy-turn, drop-all, none-left}
+use Rattle.texts.proofs.put.Statement.{statement}
+use Rattle.texts.proofs.put.Tie as tie
 
 abbrev Inv-loop : tie.InvT-loop
 Inv-loop text₀ at s i₀ text i = (i ≤ length s) × (length text ≡ length text₀) × (take (at + i) text ++ drop i s ≡ take at text₀ ++ s)

@@ -1,10 +1,10 @@
--- `layouts::text::put_layout` meets its contract: the parts of the line one after another.
+-- `texts::put_layout` meets its contract: the parts of the line one after another.
 use native.Mathlib.Omega.{arith}
-use Rattle.layouts.specs.Text.{layoutLine}
-use Rattle.layouts.proofs.TextLaw.{put-join, number-is}
+use Rattle.texts.specs.Text.{layoutLine}
+use Rattle.texts.proofs.TextLaw.{put-join, number-is}
 use borrow.Author.Needs.{needs}
-use Rattle.layouts.proofs.text.put_layout.Statement.{statement}
-use Rattle.layouts.proofs.text.put_layout.Tie as tie
+use Rattle.texts.proofs.put_layout.Statement.{statement}
+use Rattle.texts.proofs.put_layout.Tie as tie
 
 place-at-requires : tie.Need-place-at-requires
 place-at-requires c κs = search needs

@@ -8,7 +8,7 @@ use native.Mathlib.Nat.{pow-succ'}
 use borrow.Author.Tests.{lt-ltb, le-ltb}
 use lib.ListN.{length, getD, set, take, drop, length-append, length-drop, length-set}
 use lib.Seq.{length-take-le, take-suc-set, drop-cons, drop-length, drop-set-lt, getD-set-same, take-all}
-use Rattle.layouts.specs.Text.{decimalIn, decimalOf, digitsOf, layoutLine, layoutLines, Put}
+use Rattle.texts.specs.Text.{decimalIn, decimalOf, digitsOf, layoutLine, layoutLines, Put}
 
 -- ---- what was put
 pub put-is : (old : List ℕ) (at : ℕ) (s new : List ℕ) (k : ℕ) → length new ≡ length old → at ≤ length old → k ≤ length new → take k new ≡ take at old ++ s → Put old at s new k

@@ -1,14 +1,14 @@
--- `layouts::text::spell` meets its contract: the digits that are left come before those that stand.
+-- `texts::spell` meets its contract: the digits that are left come before those that stand.
 use mathlib.Core.Path.{_≡_, sym, ap, _∙_}
 use mathlib.Core.List.{List, [], _++_, append-nil}
 use Prim.Native.Nat.{ℕ, suc, _+_, _-_, _/_, _^_, _≤_, _<_}
 use native.Mathlib.Omega.{arith}
 use borrow.Author.Needs.{needs}
 use lib.ListN.{length, drop, set, length-set}
-use Rattle.layouts.specs.Text.{decimalIn}
-use Rattle.layouts.proofs.TextLaw.{drop-all, spell-first, spell-fits, spell-turn, spell-last}
-use Rattle.layouts.proofs.text.spell.Statement.{statement}
-use Rattle.layouts.proofs.text.spell.Tie as tie
+use Rattle.texts.specs.Text.{decimalIn}
+use Rattle.texts.proofs.TextLaw.{drop-all, spell-first, spell-fits, spell-turn, spell-last}
+use Rattle.texts.proofs.spell.Statement.{statement}
+use Rattle.texts.proofs.spell.Tie as tie
 
 abbrev Inv-loop : tie.InvT-loop
 Inv-loop bytes₀ x i₀ rest₀ bytes i rest = (i < 20) × (length bytes ≡ 20) × (rest < 10 ^ suc i) × (decimalIn (suc i) rest ++ drop (suc i) bytes ≡ decimalIn 20 x)

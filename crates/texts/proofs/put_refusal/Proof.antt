@@ -1,10 +1,10 @@
--- `layouts::text::put_refusal` meets its contract: the parts of the line one after another.
+-- `texts::put_refusal` meets its contract: the parts of the line one after another.
 use native.Mathlib.Omega.{arith}
-use Rattle.layouts.specs.Text.{refusalLine}
-use Rattle.layouts.proofs.TextLaw.{put-join}
+use Rattle.texts.specs.Text.{refusalLine}
+use Rattle.texts.proofs.TextLaw.{put-join}
 use borrow.Author.Needs.{needs}
-use Rattle.layouts.proofs.text.put_refusal.Statement.{statement}
-use Rattle.layouts.proofs.text.put_refusal.Tie as tie
+use Rattle.texts.proofs.put_refusal.Statement.{statement}
+use Rattle.texts.proofs.put_refusal.Tie as tie
 
 slice-aggregate-put : tie.Need-slice-aggregate-put
 slice-aggregate-put c = search needs

@@ -1,14 +1,14 @@
--- `layouts::text::put_layouts` meets its contract: the lines that are left follow those that stand.
+-- `texts::put_layouts` meets its contract: the lines that are left follow those that stand.
 use mathlib.Core.Path.{_≡_, refl, _∙_}
 use mathlib.Core.List.{_++_}
 use Prim.Native.Nat.{_-_, _*_, _≤_}
 use native.Mathlib.Omega.{arith}
 use borrow.Author.Needs.{needs}
 use lib.ListN.{length, take, drop}
-use Rattle.layouts.specs.Text.{layoutLines}
-use Rattle.layouts.proofs.TextLaw.{put-is, lines-none, lines-turn, drop-all, none-left}
-use Rattle.layouts.proofs.text.put_layouts.Statement.{statement}
-use Rattle.layouts.proofs.text.put_layouts.Tie as tie
+use Rattle.texts.specs.Text.{layoutLines}
+use Rattle.texts.proofs.TextLaw.{put-is, lines-none, lines-turn, drop-all, none-left}
+use Rattle.texts.proofs.put_layouts.Statement.{statement}
+use Rattle.texts.proofs.put_layouts.Tie as tie
 
 abbrev Inv-loop : tie.InvT-loop
 Inv-loop text₀ n points next₀ i₀ text next i = (i ≤ length points) × (next ≤ 63 * i) × (length text ≡ length text₀) × (take next text ++ layoutLines n (drop i points) ≡ layoutLines n points)

@@ -1,14 +1,14 @@
--- `layouts::text::put_digits` meets its contract: the digits that are left follow those that stand.
+-- `texts::put_digits` meets its contract: the digits that are left follow those that stand.
 use mathlib.Core.Path.{_≡_, refl, ap, _∙_}
 use mathlib.Core.List.{_++_}
 use Prim.Native.Nat.{ℕ, _+_, _-_, _/_, _≤_}
 use native.Mathlib.Omega.{arith}
 use borrow.Author.Needs.{needs}
 use lib.ListN.{length, take, set}
-use Rattle.layouts.specs.Text.{digitsOf}
-use Rattle.layouts.proofs.TextLaw.{put-is, digits-turn, digits-none, none-left}
-use Rattle.layouts.proofs.text.put_digits.Statement.{statement}
-use Rattle.layouts.proofs.text.put_digits.Tie as tie
+use Rattle.texts.specs.Text.{digitsOf}
+use Rattle.texts.proofs.TextLaw.{put-is, digits-turn, digits-none, none-left}
+use Rattle.texts.proofs.put_digits.Statement.{statement}
+use Rattle.texts.proofs.put_digits.Tie as tie
 
 abbrev Inv-loop : tie.InvT-loop
 Inv-loop text₀ at n x end next₀ rest₀ text next rest = (at ≤ next) × (next ≤ end) × (length text ≡ length text₀) × (take next text ++ digitsOf (end - next) rest ≡ take at text₀ ++ digitsOf n x)

@@ -1,8 +1,8 @@
--- `layouts::text::put_number` meets its contract: the digits stand at the end of 20 bytes.
-use Rattle.layouts.proofs.TextLaw.{number-put}
+-- `texts::put_number` meets its contract: the digits stand at the end of 20 bytes.
+use Rattle.texts.proofs.TextLaw.{number-put}
 use borrow.Author.Needs.{needs}
-use Rattle.layouts.proofs.text.put_number.Statement.{statement}
-use Rattle.layouts.proofs.text.put_number.Tie as tie
+use Rattle.texts.proofs.put_number.Statement.{statement}
+use Rattle.texts.proofs.put_number.Tie as tie
 
 slice-aggregate-spell : tie.Need-slice-aggregate-spell
 slice-aggregate-spell c = search needs
