@@ -7,16 +7,27 @@ use native.Mathlib.Omega.{arith}
 use native.Mathlib.Nat.{pow-succ'}
 use borrow.Author.Tests.{lt-ltb, le-ltb}
 use lib.ListN.{length, getD, set, take, drop, length-append, length-drop, length-set}
-use lib.Seq.{length-take-le, take-suc-set, drop-cons, drop-length, drop-set-lt, getD-set-same, take-all}
+use lib.Seq.{length-take-le, take-suc-set, drop-cons, drop-length, drop-drop, drop-set-lt, getD-set-same, take-all}
 use Rattle.texts.specs.Text.{decimalIn, decimalOf, digitsOf, layoutLine, layoutLines, Put}
 
 -- ---- what was put
-pub put-is : (old : List ℕ) (at : ℕ) (s new : List ℕ) (k : ℕ) → length new ≡ length old → at ≤ length old → k ≤ length new → take k new ≡ take at old ++ s → Put old at s new k
-put-is old at s new k e h l f =
+-- bytes that are the same from k on are so from j on
+pub drop-past : (k j : ℕ) (l m : List ℕ) → k ≤ j → drop k l ≡ drop k m → drop j l ≡ drop j m
+drop-past k j l m h e =
+    let n : k + (j - k) ≡ j = omega arith in
+    ap (λ (i : ℕ). drop i l) (sym n) ∙ sym (drop-drop (j - k) k l) ∙ ap (drop (j - k)) e ∙ drop-drop (j - k) k m ∙ ap (λ (i : ℕ). drop i m) n
+
+-- a byte is written before them
+pub drop-turn : (k v : ℕ) (l m : List ℕ) → drop k l ≡ drop k m → drop (k + 1) (set l k v) ≡ drop (k + 1) m
+drop-turn k v l m e = drop-set-lt (k + 1) l k v (omega arith) ∙ drop-past k (k + 1) l m (omega arith) e
+
+pub put-is : (old : List ℕ) (at : ℕ) (s new : List ℕ) (k : ℕ) → length new ≡ length old → at ≤ length old → k ≤ length new → take k new ≡ take at old ++ s → drop k new ≡ drop k old → Put old at s new k
+put-is old at s new k e h l f g =
     record {
       size = e;
       next = sym (length-take-le k new l) ∙ ap length f ∙ length-append (take at old) s ∙ ap (λ (n : ℕ). n + length s) (length-take-le at old h);
       front = f;
+      rest = g;
     }
 
 pub put-join : {a : List ℕ} {i : ℕ} {s b : List ℕ} {j : ℕ} {t c : List ℕ} {k : ℕ} → Put a i s b j → Put b j t c k → Put a i (s ++ t) c k
@@ -25,6 +36,7 @@ put-join {a} {i} {s} {b} {j} {t} {c} {k} p q =
       size = q .size ∙ p .size;
       next = omega (arith, p .next, q .next, length-append s t);
       front = q .front ∙ ap (λ (l : List ℕ). l ++ t) (p .front) ∙ append-assoc (take i a) s t;
+      rest = q .rest ∙ drop-past j k b a (omega (arith, q .next)) (p .rest);
     }
 
 -- one byte more stands in the text

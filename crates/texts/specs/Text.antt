@@ -4,7 +4,7 @@ use mathlib.Core.Bool.{true, false}
 use mathlib.Core.List.{List, [], _∷_, _++_}
 use Prim.Native.Nat.{ℕ, zero, suc, _+_, _/_, _%_}
 use lib.Dec.{ltb}
-use lib.ListN.{length, take}
+use lib.ListN.{length, take, drop}
 use Rattle.gray.specs.Numbers.{placeOf}
 
 -- a number in decimal digits, without leading zeros: k digits are enough for one below 10^k
@@ -47,8 +47,9 @@ unfoldable pub refusalLine : ℕ → ℕ → List ℕ
 refusalLine r k =
     (114 ∷ 101 ∷ 102 ∷ 117 ∷ 115 ∷ 101 ∷ 100 ∷ 32 ∷ []) ++ (decimalOf r ++ ((32 ∷ 108 ∷ 105 ∷ 110 ∷ 101 ∷ 32 ∷ []) ++ (decimalOf k ++ (10 ∷ []))))
 
--- s was put into a text at byte `at`: what stood before stays, and the next free byte is `end`
+-- s was put into a text at byte `at`: all other bytes stay, and the next free byte is `end`
 pub record Put (old : List ℕ) (at : ℕ) (s : List ℕ) (new : List ℕ) (end : ℕ) : Type 0 where
   pub size : length new ≡ length old
   pub next : end ≡ at + length s
   pub front : take end new ≡ take at old ++ s
+  pub rest : drop end new ≡ drop end old

@@ -4,13 +4,13 @@ use mathlib.Core.List.{_++_}
 use Prim.Native.Nat.{ℕ, _+_, _-_, _≤_}
 use native.Mathlib.Omega.{arith}
 use borrow.Author.Needs.{needs}
-use lib.ListN.{length, take, drop}
-use Rattle.texts.proofs.TextLaw.{put-is, copy-turn, drop-all, none-left}
+use lib.ListN.{length, getD, take, drop}
+use Rattle.texts.proofs.TextLaw.{put-is, drop-turn, copy-turn, drop-all, none-left}
 use Rattle.texts.proofs.put.Statement.{statement}
 use Rattle.texts.proofs.put.Tie as tie
 
 abbrev Inv-loop : tie.InvT-loop
-Inv-loop text₀ at s i₀ text i = (i ≤ length s) × (length text ≡ length text₀) × (take (at + i) text ++ drop i s ≡ take at text₀ ++ s)
+Inv-loop text₀ at s i₀ text i = (i ≤ length s) × (length text ≡ length text₀) × (take (at + i) text ++ drop i s ≡ take at text₀ ++ s) × (drop (at + i) text ≡ drop (at + i) text₀)
 
 abbrev μ-loop : tie.MeasureT-loop
 μ-loop text₀ at s i₀ text i = length s - i
@@ -19,7 +19,7 @@ loop-holds : tie.Need-loop-holds Inv-loop μ-loop
 loop-holds c =
     let a = c .args in
     let z : a .at + 0 ≡ a .at = omega arith in
-    (omega arith, refl, ap (λ (n : ℕ). take n (a .text .now) ++ a .s .now) z)
+    (omega arith, refl, ap (λ (n : ℕ). take n (a .text .now) ++ a .s .now) z, refl)
 
 shared-slice-read-text : tie.Need-shared-slice-read-text Inv-loop μ-loop
 shared-slice-read-text c = search needs
@@ -41,7 +41,8 @@ loop-again c =
     let l = c .before .before .loop in
     let a = c .before .before .before .args in
     let h = c .before .loop-test .taken in
-    (omega arith, search needs, copy-turn (l .text) (a .at) (l .i) (a .s .now) (omega arith) h ∙ l .inv .2)
+    let e : a .at + l .i + 1 ≡ a .at + (l .i + 1) = omega arith in
+    (omega arith, search needs, copy-turn (l .text) (a .at) (l .i) (a .s .now) (omega arith) h ∙ l .inv .2, rw (← e) (drop-turn (a .at + l .i) (getD (a .s .now) (l .i) 0) (l .text) (a .text .now) (l .inv .3)))
 
 add-result : tie.Need-add-result Inv-loop μ-loop
 add-result c = search needs
@@ -58,6 +59,7 @@ returns c =
     let m : a .at + l .i ≤ length (l .text) = omega arith in
     put-is (a .text .now) (a .at) (a .s .now) (l .text) (a .at + l .i) (l .inv .1) n m
     (none-left (take (a .at + l .i) (l .text)) (drop (l .i) (a .s .now)) (drop-all (a .s .now) (l .i) e) ∙ l .inv .2)
+    (l .inv .3)
 
 pub put-spec : {M : Type 1} → statement M
 put-spec =

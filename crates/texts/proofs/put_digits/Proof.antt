@@ -4,14 +4,14 @@ use mathlib.Core.List.{_++_}
 use Prim.Native.Nat.{ℕ, _+_, _-_, _/_, _≤_}
 use native.Mathlib.Omega.{arith}
 use borrow.Author.Needs.{needs}
-use lib.ListN.{length, take, set}
+use lib.ListN.{length, take, drop, set}
 use Rattle.texts.specs.Text.{digitsOf}
-use Rattle.texts.proofs.TextLaw.{put-is, digits-turn, digits-none, none-left}
+use Rattle.texts.proofs.TextLaw.{put-is, drop-turn, digits-turn, digits-none, none-left}
 use Rattle.texts.proofs.put_digits.Statement.{statement}
 use Rattle.texts.proofs.put_digits.Tie as tie
 
 abbrev Inv-loop : tie.InvT-loop
-Inv-loop text₀ at n x end next₀ rest₀ text next rest = (at ≤ next) × (next ≤ end) × (length text ≡ length text₀) × (take next text ++ digitsOf (end - next) rest ≡ take at text₀ ++ digitsOf n x)
+Inv-loop text₀ at n x end next₀ rest₀ text next rest = (at ≤ next) × (next ≤ end) × (length text ≡ length text₀) × (take next text ++ digitsOf (end - next) rest ≡ take at text₀ ++ digitsOf n x) × (drop next text ≡ drop next text₀)
 
 abbrev μ-loop : tie.MeasureT-loop
 μ-loop text₀ at n x end next₀ rest₀ text next rest = end - next
@@ -23,7 +23,7 @@ loop-holds : tie.Need-loop-holds Inv-loop μ-loop
 loop-holds c =
     let a = c .before .args in
     let z : a .at + a .n - a .at ≡ a .n = omega arith in
-    (omega arith, omega arith, refl, ap (λ (k : ℕ). take (a .at) (a .text .now) ++ digitsOf k (a .x)) z)
+    (omega arith, omega arith, refl, ap (λ (k : ℕ). take (a .at) (a .text .now) ++ digitsOf k (a .x)) z, refl)
 
 glyph-requires : tie.Need-glyph-requires Inv-loop μ-loop
 glyph-requires c κs = search needs
@@ -49,6 +49,7 @@ loop-again c =
       ap (λ (v : ℕ). take (l .next + 1) (set (l .text) (l .next) v) ++ digitsOf (end - (l .next + 1)) (l .rest / 3)) (c .glyph .ensures)
           ∙ digits-turn (l .text) (l .next) end (l .rest) (omega arith) h
           ∙ l .inv .3,
+      drop-turn (l .next) _ (l .text) (a .text .now) (l .inv .4),
     )
 
 same-length : tie.Need-same-length Inv-loop μ-loop
@@ -63,7 +64,8 @@ returns c =
     let n : a .at ≤ length (a .text .now) = omega arith in
     let m : l .next ≤ length (l .text) = omega arith in (
       put-is (a .text .now) (a .at) (digitsOf (a .n) (a .x)) (l .text) (l .next) (l .inv .2) n m
-          (none-left (take (l .next) (l .text)) (digitsOf (end - l .next) (l .rest)) (digits-none (end - l .next) (l .rest) e) ∙ l .inv .3),
+          (none-left (take (l .next) (l .text)) (digitsOf (end - l .next) (l .rest)) (digits-none (end - l .next) (l .rest) e) ∙ l .inv .3)
+          (l .inv .4),
       omega arith,
     )
 

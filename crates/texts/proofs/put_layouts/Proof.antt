@@ -6,19 +6,19 @@ use native.Mathlib.Omega.{arith}
 use borrow.Author.Needs.{needs}
 use lib.ListN.{length, take, drop}
 use Rattle.texts.specs.Text.{layoutLines}
-use Rattle.texts.proofs.TextLaw.{put-is, lines-none, lines-turn, drop-all, none-left}
+use Rattle.texts.proofs.TextLaw.{put-is, drop-past, lines-none, lines-turn, drop-all, none-left}
 use Rattle.texts.proofs.put_layouts.Statement.{statement}
 use Rattle.texts.proofs.put_layouts.Tie as tie
 
 abbrev Inv-loop : tie.InvT-loop
-Inv-loop text₀ n points next₀ i₀ text next i = (i ≤ length points) × (next ≤ 63 * i) × (length text ≡ length text₀) × (take next text ++ layoutLines n (drop i points) ≡ layoutLines n points)
+Inv-loop text₀ n points next₀ i₀ text next i = (i ≤ length points) × (next ≤ 63 * i) × (length text ≡ length text₀) × (take next text ++ layoutLines n (drop i points) ≡ layoutLines n points) × (drop next text ≡ drop next text₀)
 
 abbrev μ-loop : tie.MeasureT-loop
 μ-loop text₀ n points next₀ i₀ text next i = length points - i
 
 loop-holds : tie.Need-loop-holds Inv-loop μ-loop
 loop-holds c =
-    (omega arith, omega arith, refl, refl)
+    (omega arith, omega arith, refl, refl, refl)
 
 mul-put-layout : tie.Need-mul-put-layout Inv-loop μ-loop
 mul-put-layout c = search needs
@@ -46,6 +46,7 @@ loop-again c =
       omega (arith, r .ensures .1),
       p .size ∙ l .inv .2,
       lines-turn (a .n) (l .text) (l .next) (r .last .0) (r .result) (l .i) (a .points .now) h p ∙ l .inv .3,
+      p .rest ∙ drop-past (l .next) (r .result) (l .text) (a .text .now) (omega (arith, p .next)) (l .inv .4),
     )
 
 same-length : tie.Need-same-length Inv-loop μ-loop
@@ -59,7 +60,8 @@ returns c =
     let m : l .next ≤ length (l .text) = omega arith in
     let z : 0 ≤ length (a .text .now) = omega arith in (
       put-is (a .text .now) 0 (layoutLines (a .n) (a .points .now)) (l .text) (l .next) (l .inv .2) z m
-          (none-left (take (l .next) (l .text)) (layoutLines (a .n) (drop (l .i) (a .points .now))) (lines-none (a .n) (drop (l .i) (a .points .now)) (drop-all (a .points .now) (l .i) e)) ∙ l .inv .3),
+          (none-left (take (l .next) (l .text)) (layoutLines (a .n) (drop (l .i) (a .points .now))) (lines-none (a .n) (drop (l .i) (a .points .now)) (drop-all (a .points .now) (l .i) e)) ∙ l .inv .3)
+          (l .inv .4),
       omega arith,
     )
 
