@@ -102,6 +102,18 @@ head_only() { # with SIGPIPE as a planner's shell has it, whoever runs this test
 gives 1 '' head_only
 [[ $(cat "$out/stdout") == 'vars 9 eqs 1' ]] || fail 'the head of the output'
 
+# ---- progress: on a terminal alone, on standard error alone, and gone at the end ----
+printf 'p edge 16 6\ne 1 2\ne 1 3\ne 1 4\ne 2 3\ne 2 4\ne 3 4\n' >"$out/text"
+on_terminal() { # standard error is a terminal, whose contents are kept
+    command script -qec "target/bin/layouts <'$out/text' >'$out/written'" /dev/null </dev/null >"$out/terminal"
+}
+gives 0 '' on_terminal
+[[ $(cat "$out/terminal") == $'\rpoints 43046721 of 43046721 found 0\r\e[K' ]] || fail "progress: $(cat -v "$out/terminal")"
+[[ $(cat "$out/written") == $'vars 16 eqs 6\npoints 43046721 additions 86093424 found 0 ended' ]] || fail 'the output beside progress'
+target/bin/layouts <"$out/text" 2>"$out/stderr" >"$out/stdout"
+[[ ! -s $out/stderr ]] || fail 'progress without a terminal'
+passed
+
 # ---- the script with other programs, in a copy: what did not end must not look ended ----
 copy=$out/copy
 mkdir -p "$copy/target/bin" "$copy/crates/layouts/src" "$copy/path"
