@@ -4,7 +4,7 @@ use Rattle.residues.specs.Sums.{same}
 use Rattle.trits.specs.Trit.{ofTrits, fromBits}
 use Rattle.tables.specs.Monomials.{countOf, productNth, nth}
 use Rattle.tables.specs.Words.{tabled, wordsOf}
-use Rattle.graphs.specs.Lines.{firstOf, decimalFrom, pairIn, starts, shapeOf}
+use Rattle.lines.specs.Lines.{firstOf, decimalFrom, pairIn, starts, shapeOf}
 use Rattle.graphs.specs.Reading.{linesOf, takeLine, endOf, readLines, outcomeOf}
 use Rattle.graphs.specs.Equations.{isEnd, edgePoly, systemOf}
 use Rattle.graphs.specs.Answers.{wordsAfter}

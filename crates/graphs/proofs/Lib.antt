@@ -1,4 +1,3 @@
-pub mod LineLaw
 pub mod ReturnLaw
 pub mod ReadLaw
 pub mod WriteLaw

@@ -15,13 +15,13 @@ use Rattle.graphs.specs.declared.GraphFault.{GraphFault}
 use Rattle.graphs.specs.declared.GraphFault.the-variants as why
 use Rattle.graphs.specs.declared.reading.Finding.{Finding}
 use Rattle.graphs.specs.declared.reading.Finding.the-variants.{Fine, Fault}
-use Rattle.graphs.specs.declared.lines.Shape.{Shape}
-use Rattle.graphs.specs.declared.lines.Shape.the-variants.{Comment, Problem, Edge, Unknown}
-use Rattle.graphs.specs.Lines.{firstOf, shapeOf}
+use Rattle.lines.specs.declared.Shape.{Shape}
+use Rattle.lines.specs.declared.Shape.the-variants.{Comment, Problem, Edge, Unknown}
+use Rattle.lines.specs.Lines.{firstOf, shapeOf}
 use Rattle.graphs.specs.Reading.{grow, linesOf, Ends, State, start, declared, Turn, on, stop, fault, problemFault, edgeFault, carry, takeLine, graph, refused, endOf, readLines}
 use Rattle.graphs.specs.Equations.{noEnds}
 use Rattle.graphs.specs.Answers.{endsOf, stateIn, foundOf, isFault}
-use Rattle.graphs.proofs.LineLaw.{first-stop, first-more}
+use Rattle.lines.proofs.LineLaw.{first-stop, first-more}
 
 -- ---- lines
 lines-feed : (x : ℕ) (t : List ℕ) → x ≡ 10 → linesOf (x ∷ t) ≡ [] ∷ linesOf t

@@ -11,13 +11,13 @@ use lib.Dec.{eqb, ltb}
 use lib.ListN.{length, getD, take, drop, take-append-drop, drop-of-length-le}
 use lib.Seq.{drop-cons}
 use borrow.Author.Tests.{eq-eqb, ne-eqb}
-use Rattle.graphs.specs.declared.lines.Number.{Number}
-use Rattle.graphs.specs.declared.lines.Number.the-variants as number
-use Rattle.graphs.specs.declared.lines.Pair.{Pair}
-use Rattle.graphs.specs.declared.lines.Pair.the-variants as pair
-use Rattle.graphs.specs.declared.lines.Shape.the-variants.{Unknown}
-use Rattle.graphs.specs.Lines.{has, firstOf, isDigit, decimalFrom, pickNumber, isPadded, numberIn, both, pairIn, starts, isComment, asProblem, asEdge, shapeOf}
-use Rattle.graphs.proofs.LineLaw.{first-stop, first-more, digit-low, both-wrong, shape-problem, shape-edge, shape-unknown}
+use Rattle.lines.specs.declared.Number.{Number}
+use Rattle.lines.specs.declared.Number.the-variants as number
+use Rattle.lines.specs.declared.Pair.{Pair}
+use Rattle.lines.specs.declared.Pair.the-variants as pair
+use Rattle.lines.specs.declared.Shape.the-variants.{Unknown}
+use Rattle.lines.specs.Lines.{has, firstOf, isDigit, decimalFrom, pickNumber, isPadded, numberIn, both, pairIn, starts, isComment, asProblem, asEdge, shapeOf}
+use Rattle.lines.proofs.LineLaw.{first-stop, first-more, digit-low, both-wrong, shape-problem, shape-edge, shape-unknown}
 
 clash : false ≡ true → ⊥
 clash e = let z : _≡_ {A = ℕ} 0 1 = cc in omega arith

@@ -14,9 +14,9 @@ use Rattle.graphs.specs.declared.GraphFault.{GraphFault}
 use Rattle.graphs.specs.declared.GraphFault.the-variants as why
 use Rattle.graphs.specs.declared.reading.Finding.{Finding}
 use Rattle.graphs.specs.declared.reading.Finding.the-variants.{Fine, Fault}
-use Rattle.graphs.specs.declared.lines.Shape.{Shape}
-use Rattle.graphs.specs.declared.lines.Shape.the-variants.{Comment, Problem, Edge, Unknown}
-use Rattle.graphs.specs.Lines.{shapeOf}
+use Rattle.lines.specs.declared.Shape.{Shape}
+use Rattle.lines.specs.declared.Shape.the-variants.{Comment, Problem, Edge, Unknown}
+use Rattle.lines.specs.Lines.{shapeOf}
 use Rattle.graphs.specs.Reading.{linesOf, Ends, State, start, declared, Turn, on, stop, problemFault, edgeFault, carry, takeLine, Outcome, graph, refused, refuse, endOf, readLines, outcomeOf}
 use Rattle.graphs.specs.Equations.{noEnds}
 use Rattle.graphs.specs.Parts.{Edged, Drawn}

@@ -8,9 +8,9 @@ use Rattle.graphs.specs.declared.GraphFault.{GraphFault}
 use Rattle.graphs.specs.declared.GraphFault.the-variants as why
 use Rattle.graphs.specs.declared.reading.Finding.{Finding}
 use Rattle.graphs.specs.declared.reading.Finding.the-variants.{Fine, Fault}
-use Rattle.graphs.specs.declared.lines.Shape.{Shape}
-use Rattle.graphs.specs.declared.lines.Shape.the-variants.{Comment, Problem, Edge, Unknown}
-use Rattle.graphs.specs.Lines.{shapeOf}
+use Rattle.lines.specs.declared.Shape.{Shape}
+use Rattle.lines.specs.declared.Shape.the-variants.{Comment, Problem, Edge, Unknown}
+use Rattle.lines.specs.Lines.{shapeOf}
 
 -- document 01's number of each refusal
 abbrev pub faultNumber : GraphFault → ℕ

@@ -1,5 +1,5 @@
 // The reader of graph files: a text becomes a coefficient table with one equation for each edge.
-// Contracts cite specs/Lines (what a line is), specs/Reading (what a text means), specs/Equations and specs/Answers.
+// Contracts cite lines/specs/Lines (what a line is), specs/Reading (what a text means), specs/Equations and specs/Answers.
 use crate::equations::write;
 use crate::reading::Finding;
 use crate::reading::read_lines;
@@ -9,7 +9,6 @@ ghost use Rattle.graphs.specs.Reading.{faultNumber, outcomeOf};
 ghost use Rattle.graphs.specs.Answers.{answerOf, wordsAfter, readTold, outcomeTold};
 
 mod equations;
-mod lines;
 mod reading;
 
 // Why a text is refused: one case for each of document 01's numbers 2 and 10 to 15.

@@ -1,15 +1,15 @@
 // A text read line by line into a graph. Nothing lent is written here.
 use crate::GraphFault;
-use crate::lines::Shape;
-use crate::lines::find;
-use crate::lines::shape_of;
+use lines::Shape;
+use lines::find;
+use lines::shape_of;
 ghost use mathlib.Core.Path.{_≡_};
 ghost use Prim.Native.Nat.{_+_, _≤_, _<_};
 ghost use lib.ListN.{length, set};
 ghost use Rattle.graphs.specs.Reading.{problemFault, edgeFault, takeLine, carry, start, endOf, readLines, linesOf};
-ghost use Rattle.graphs.specs.Lines.{shapeOf};
+ghost use Rattle.lines.specs.Lines.{shapeOf};
 ghost use Rattle.graphs.specs.Answers.{stateOf, scanOf, edgesOf, foundOf, isFault};
-ghost use Rattle.graphs.specs.declared.lines.Shape.the-variants.{Edge, Problem};
+ghost use Rattle.lines.specs.declared.Shape.the-variants.{Edge, Problem};
 
 // Whether a line is refused.
 pub enum Finding {

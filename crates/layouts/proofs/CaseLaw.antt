@@ -2,7 +2,7 @@
 use mathlib.Core.Path.{refl}
 use Rattle.residues.specs.Sums.{sum}
 use Rattle.gray.specs.Numbers.{digit, number, pointDigit, pointOf, placeDigit, placeOf}
-use Rattle.graphs.specs.Lines.{firstOf, decimalFrom, pairIn, starts, shapeOf}
+use Rattle.lines.specs.Lines.{firstOf, decimalFrom, pairIn, starts, shapeOf}
 use Rattle.graphs.specs.Reading.{linesOf, takeLine, endOf, readLines, outcomeOf}
 use Rattle.texts.specs.Text.{decimalIn, digitsOf, layoutLine, layoutLines, headLine, totalsLine, refusalLine}
 use Rattle.layouts.specs.Output.{differAt, layoutsIn, outputOf}

@@ -4,11 +4,11 @@ use Prim.Native.Nat.{_+_, _-_, _≤_}
 use native.Mathlib.Omega.{arith}
 use lib.ListN.{length, take, drop, length-drop, drop-of-length-le}
 use lib.Seq.{length-take-le}
-use Rattle.graphs.specs.Lines.{firstOf}
+use Rattle.lines.specs.Lines.{firstOf}
 use borrow.Author.Needs.{needs}
 use Rattle.graphs.specs.Answers.{stateOf, edgesOf}
 use Rattle.graphs.specs.Reading.{State, readLines, linesOf, start}
-use Rattle.graphs.proofs.LineLaw.{rest-is}
+use Rattle.lines.proofs.LineLaw.{rest-is}
 use Rattle.graphs.proofs.ReadLaw.{lines-at, lines-none, read-none, read-on, read-refused, state-start}
 use Rattle.graphs.proofs.reading.read_lines.Statement.{statement}
 use Rattle.graphs.proofs.reading.read_lines.Tie as tie
