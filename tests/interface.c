@@ -290,28 +290,37 @@ static int legal_record(unsigned n, unsigned m)
 static void search_refusals(void)
 {
     static const int8_t edge[6] = {2, 0, 0, 1, 1, 1};
+    static const struct {
+        const char *what;
+        uint64_t n, m, table, record, budget, list, answer, refusal; /* lengths in bytes */
+    } calls[] = {
+        {"n = 0", 0, 1, 96, 360, 1, 8, 40, 1},
+        {"n = 21", 21, 1, 96, 360, 1, 8, 40, 1},
+        {"n = 2^32 + 2", 4294967298u, 1, 96, 360, 1, 8, 40, 1},
+        {"m = 0", 2, 0, 96, 360, 1, 8, 40, 1},
+        {"m = 65, and all lengths wrong", 2, 65, 1, 1, 0, 0, 1, 1},
+        {"table one word short", 2, 1, 88, 360, 1, 8, 40, 2},
+        {"table one byte long", 2, 1, 97, 360, 1, 8, 40, 2},
+        {"record short", 2, 1, 96, 359, 1, 8, 40, 2},
+        {"record long", 2, 1, 96, 368, 1, 8, 40, 2},
+        {"list of 9 bytes", 2, 1, 96, 360, 1, 9, 40, 2},
+        {"answer long", 2, 1, 96, 360, 1, 8, 48, 2},
+        {"answer short, budget 0, no list", 2, 1, 96, 360, 0, 0, 32, 2},
+        {"no list", 2, 1, 96, 360, 1, 0, 40, 7},
+        {"budget 0, no list", 2, 1, 96, 360, 0, 0, 40, 6},
+        {"n is not the record's", 1, 1, 48, 360, 1, 8, 40, 5},
+        {"m is not the record's, budget 0", 2, 2, 96, 360, 0, 8, 40, 5},
+    };
     memcpy(rows, edge, sizeof edge);
     prepare(2, 1, 4, -5);
     memcpy(old_record, record, sizeof record);
     memcpy(old_list, list, sizeof list);
     memcpy(old_answer, answer, sizeof answer);
 #define SEARCH(n, m, tb, rb, b, lb, ab) vayudrit_search(n, m, table, tb, record, rb, b, list, lb, answer, ab)
-    expect("n = 0", SEARCH(0, 1, 96, 360, 1, 8, 40), 1);
-    expect("n = 21", SEARCH(21, 1, 96, 360, 1, 8, 40), 1);
-    expect("n = 2^32 + 2", SEARCH(4294967298u, 1, 96, 360, 1, 8, 40), 1);
-    expect("m = 0", SEARCH(2, 0, 96, 360, 1, 8, 40), 1);
-    expect("m = 65, and all lengths wrong", SEARCH(2, 65, 1, 1, 0, 0, 1), 1);
-    expect("table one word short", SEARCH(2, 1, 88, 360, 1, 8, 40), 2);
-    expect("table one byte long", SEARCH(2, 1, 97, 360, 1, 8, 40), 2);
-    expect("record short", SEARCH(2, 1, 96, 359, 1, 8, 40), 2);
-    expect("record long", SEARCH(2, 1, 96, 368, 1, 8, 40), 2);
-    expect("list of 9 bytes", SEARCH(2, 1, 96, 360, 1, 9, 40), 2);
-    expect("answer long", SEARCH(2, 1, 96, 360, 1, 8, 48), 2);
-    expect("answer short, budget 0, no list", SEARCH(2, 1, 96, 360, 0, 0, 32), 2);
-    expect("no list", SEARCH(2, 1, 96, 360, 1, 0, 40), 7);
-    expect("budget 0, no list", SEARCH(2, 1, 96, 360, 0, 0, 40), 6);
-    expect("n is not the record's", SEARCH(1, 1, 48, 360, 1, 8, 40), 5);
-    expect("m is not the record's, budget 0", SEARCH(2, 2, 96, 360, 0, 8, 40), 5);
+    for (size_t k = 0; k < sizeof calls / sizeof calls[0]; k++)
+        expect(calls[k].what,
+               SEARCH(calls[k].n, calls[k].m, calls[k].table, calls[k].record, calls[k].budget, calls[k].list, calls[k].answer),
+               calls[k].refusal);
     table[8] ^= 2;
     expect("a low bit alone", SEARCH(2, 1, 96, 360, 1, 8, 40), 3);
     expect("a low bit alone, and a record of another length", SEARCH(2, 1, 96, 8, 1, 8, 40), 2);
