@@ -61,7 +61,7 @@ fn greater(a: u64, b: u64) -> u64
 }
 
 // The whole table.
-pub fn write(table: &mut [u64], g: Graph)
+pub(crate) fn write(table: &mut [u64], g: Graph)
     requires { ⌜ (length (now table) ≡ 2 * countOf (g .vertices)) × Drawn (g .vertices) (edgesOf g) ⌝ }
     ensures { λ _. ⌜ now (table .exit) ≡ wordsOf (g .vertices) (g .count) (systemOf (edgesOf g)) ⌝ }
 {

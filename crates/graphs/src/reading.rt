@@ -222,7 +222,7 @@ fn end_fault(g: Graph) -> Finding
 }
 
 // The whole text.
-pub fn read_lines(text: &[u8]) -> Scan
+pub(crate) fn read_lines(text: &[u8]) -> Scan
     requires { ⌜ length (now text) ≤ 32768 ⌝ }
     ensures { λ r. ⌜ scanOf r ≡ readLines 1 start (linesOf (now (text .entry))) ⌝ }
 {

@@ -50,7 +50,7 @@ pub fn place_at(n: u64, x: Point) -> Place
 }
 
 // Whether place or point x of n unknowns is to be converted.
-pub fn convertible(n: u64, x: u64) -> Verdict
+pub(crate) fn convertible(n: u64, x: u64) -> Verdict
     ensures { λ r. ⌜ r ≡ convertVerdict n x ⌝ }
 {
     if n < 1 {

@@ -81,6 +81,6 @@ fn ends(t: Tally) -> Tally {
     back(m, 21, 0, SIZE)
 }
 
-pub fn both_sides(t: Tally) -> Tally {
+pub(crate) fn both_sides(t: Tally) -> Tally {
     ends(last(sizes(t)))
 }

@@ -18,7 +18,7 @@ pub struct Tally {
 }
 
 // One comparison more.
-pub fn compare(t: Tally, got: u64, wanted: u64) -> Tally {
+pub(crate) fn compare(t: Tally, got: u64, wanted: u64) -> Tally {
     let compared = std::num::wrapping_add_u64(t.compared, 1);
     if got == wanted {
         return Tally {
@@ -37,14 +37,14 @@ pub fn compare(t: Tally, got: u64, wanted: u64) -> Tally {
 const REFUSED: u64 = 1000000000000;
 
 // What an answer tells, in one number: the value, or the number of the refusal above REFUSED.
-pub fn point_told(a: PointAnswer) -> u64 {
+pub(crate) fn point_told(a: PointAnswer) -> u64 {
     match a {
         PointAnswer::At(x) => x.0,
         PointAnswer::Refused(r) => std::num::wrapping_add_u64(REFUSED, refusals::number(r)),
     }
 }
 
-pub fn place_told(a: PlaceAnswer) -> u64 {
+pub(crate) fn place_told(a: PlaceAnswer) -> u64 {
     match a {
         PlaceAnswer::At(p) => p.0,
         PlaceAnswer::Refused(r) => std::num::wrapping_add_u64(REFUSED, refusals::number(r)),
@@ -52,7 +52,7 @@ pub fn place_told(a: PlaceAnswer) -> u64 {
 }
 
 // 0 where the balanced number is the one wanted, 1 where it is another, or the refusal.
-pub fn balanced_told(a: BalancedAnswer, wanted: i64) -> u64 {
+pub(crate) fn balanced_told(a: BalancedAnswer, wanted: i64) -> u64 {
     match a {
         BalancedAnswer::At(y) => { if y == wanted { 0 } else { 1 } }
         BalancedAnswer::Refused(r) => std::num::wrapping_add_u64(REFUSED, refusals::number(r)),

@@ -22,7 +22,7 @@ fn below(x: u64, d: u64) -> u64
 }
 
 // The point at place p: each digit less the one above it.
-pub fn point(n: u64, p: u64) -> u64
+pub(crate) fn point(n: u64, p: u64) -> u64
     requires { ⌜ n ≤ 20 ⌝ }
 {
     let mut x: u64 = 0;
@@ -36,7 +36,7 @@ pub fn point(n: u64, p: u64) -> u64
 }
 
 // The place of point x: each digit the sum of those from it upward.
-pub fn place(n: u64, x: u64) -> u64
+pub(crate) fn place(n: u64, x: u64) -> u64
     requires { ⌜ n ≤ 20 ⌝ }
 {
     let mut p: u64 = 0;
@@ -68,7 +68,7 @@ fn ones(n: u64, x: u64, d: u64) -> u64
 }
 
 // a less b.
-pub fn minus(a: u64, b: u64) -> i64
+pub(crate) fn minus(a: u64, b: u64) -> i64
     requires { ⌜ (a ≤ 4294967296) × (b ≤ 4294967296) ⌝ }
 {
     let left = a as i64;
@@ -77,14 +77,14 @@ pub fn minus(a: u64, b: u64) -> i64
 }
 
 // The balanced number of point x: its digits 1, less its digits 2.
-pub fn balanced(n: u64, x: u64) -> i64
+pub(crate) fn balanced(n: u64, x: u64) -> i64
     requires { ⌜ n ≤ 20 ⌝ }
 {
     minus(ones(n, x, 1) % 4294967296, ones(n, x, 2) % 4294967296)
 }
 
 // Position k of p: each digit from the lowest up gives its position once or twice.
-pub fn position(p: u64, k: u64, none: u64) -> u64 {
+pub(crate) fn position(p: u64, k: u64, none: u64) -> u64 {
     let mut left = k;
     let mut j: u64 = 0;
     while j < 41 {

@@ -77,7 +77,7 @@ fn start(n: u64, m: u64, words: &[u64], table: &mut [u64], text: &mut [u8]) -> S
 }
 
 // Reads the input. The text has the first line, or the refusal; the table of a graph has its words in front.
-pub fn begin(input: &[u8], words: &mut [u64], table: &mut [u64], text: &mut [u8]) -> Session
+pub(crate) fn begin(input: &[u8], words: &mut [u64], table: &mut [u64], text: &mut [u8]) -> Session
     requires { ⌜ (length (now words) ≡ 462) × (length (now table) ≡ 462) × (55 ≤ length (now text)) ⌝ }
     ensures { λ r. ⌜ Begun (now (input .entry)) (now (table .exit)) (now (text .exit)) r ⌝ }
 {
@@ -142,7 +142,13 @@ fn tell(s: Session, record: Record, report: Report, points: &[u64], text: &mut [
 }
 
 // One call of the search, of at most budget points: the text has a line for each layout that it found, and after the last call the totals.
-pub fn next(s: Session, table: &[u64], budget: u64, list: &mut [u64], text: &mut [u8]) -> Session
+pub(crate) fn next(
+    s: Session,
+    table: &[u64],
+    budget: u64,
+    list: &mut [u64],
+    text: &mut [u8],
+) -> Session
     requires { ⌜ Standing (now table) s × (s .open ≡ true) × (1 ≤ budget) × (1 ≤ length (now list)) × (63 * length (now list) + 92 ≤ length (now text)) ⌝ }
     ensures { λ r. ⌜ Went (now (table .entry)) s (now (text .exit)) r ⌝ }
 {

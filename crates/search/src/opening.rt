@@ -140,7 +140,7 @@ fn fill(n: u64, m: u64, table: &[u64], place: u64, c: &mut [u64]) -> Record
 }
 
 // The record of a checked table at a place.
-pub fn opened(n: u64, m: u64, table: &[u64], place: u64) -> Record
+pub(crate) fn opened(n: u64, m: u64, table: &[u64], place: u64) -> Record
     requires { ⌜ (checkedOf n m (now table) ≡ Done) × (place ≤ 3 ^ n) ⌝ }
     ensures { λ r. ⌜ r ≡ openedAt n m (now (table .entry)) place ⌝ }
 {

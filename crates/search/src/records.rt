@@ -29,7 +29,7 @@ fn same_slots(a: [Vector; 20], b: [Vector; 20]) -> bool
 }
 
 // Whether two records are equal.
-pub fn same_record(a: Record, b: Record) -> bool
+pub(crate) fn same_record(a: Record, b: Record) -> bool
     ensures { λ r. ⌜ r ≡ sameRecord a b ⌝ }
 {
     if a.n != b.n {

@@ -8,7 +8,7 @@ pub struct Tally {
 }
 
 // One comparison more.
-pub fn counted(t: Tally, same: bool) -> Tally {
+pub(crate) fn counted(t: Tally, same: bool) -> Tally {
     let compared = more(t.compared, 1);
     if same {
         return Tally {
@@ -23,7 +23,7 @@ pub fn counted(t: Tally, same: bool) -> Tally {
 }
 
 // A sum that stays where it would not fit.
-pub fn more(a: u64, b: u64) -> u64 {
+pub(crate) fn more(a: u64, b: u64) -> u64 {
     if a >= 4611686018427387904 {
         return a;
     }
@@ -34,7 +34,7 @@ pub fn more(a: u64, b: u64) -> u64 {
 }
 
 // A place further on in a list.
-pub fn ahead(k: usize, by: usize) -> usize {
+pub(crate) fn ahead(k: usize, by: usize) -> usize {
     if k >= 100000 {
         return k;
     }
@@ -44,19 +44,19 @@ pub fn ahead(k: usize, by: usize) -> usize {
     k + by
 }
 
-pub fn word(t: &[u64], k: usize) -> u64 {
+pub(crate) fn word(t: &[u64], k: usize) -> u64 {
     if k < t.len() { t[k] } else { 0 }
 }
 
 // Another random number.
-pub fn stir(x: u64) -> u64 {
+pub(crate) fn stir(x: u64) -> u64 {
     let a = x ^ (x % 2251799813685248) * 8192;
     let b = a ^ (a >> 7);
     b ^ (b % 140737488355328) * 131072
 }
 
 // The 8-bit number with the low bits of b: 128 is -128, 255 is -1.
-pub fn signed(b: u64) -> i8 {
+pub(crate) fn signed(b: u64) -> i8 {
     let r = b % 256;
     if r < 128 {
         return r as i8;
@@ -65,13 +65,13 @@ pub fn signed(b: u64) -> i8 {
 }
 
 // Its remainder, from the same bits: a negative number is r - 256, and -256 has the remainder 2.
-pub fn plain_remainder(b: u64) -> u64 {
+pub(crate) fn plain_remainder(b: u64) -> u64 {
     let r = b % 256;
     if r < 128 { r % 3 } else { (r + 2) % 3 }
 }
 
 // One row's value at the digits of point x, monomial by monomial; the rows are remainders.
-pub fn plain_value(rows: &[u64], start: usize, n: usize, x: u64) -> u64 {
+pub(crate) fn plain_value(rows: &[u64], start: usize, n: usize, x: u64) -> u64 {
     let linear = plain_linear(rows, ahead(start, 1), n, x);
     let mut k = ahead(start, ahead(n, 1));
     let mut value = more(word(rows, start), linear) % 3;
@@ -121,7 +121,7 @@ fn plain_digit(x: u64, i: usize) -> u64
 }
 
 // Whether the first `words` words of two tables are equal.
-pub fn same_words(a: &[u64], b: &[u64], words: usize) -> bool {
+pub(crate) fn same_words(a: &[u64], b: &[u64], words: usize) -> bool {
     let mut k: usize = 0;
     while k < words {
         if word(a, k) != word(b, k) {

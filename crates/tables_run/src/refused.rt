@@ -171,7 +171,7 @@ fn packing(faults: u64, low: bool, t: Tally) -> Tally {
     counted(t, right(answer, faults % 16, &a))
 }
 
-pub fn all() -> Tally {
+pub(crate) fn all() -> Tally {
     let mut t = Tally {
         compared: 0,
         differ: 0,

@@ -19,7 +19,7 @@ const NUMBERS: usize = 14784;
 const WORDS: usize = 462;
 
 // Every 8-bit number as the constant of one equation in one unknown.
-pub fn coefficients() -> Tally {
+pub(crate) fn coefficients() -> Tally {
     let mut t = Tally {
         compared: 0,
         differ: 0,
@@ -220,7 +220,7 @@ fn monomials(n: usize) -> usize {
 }
 
 // n = 1 to 6, each with 1, 3, 7, 15, 31, 63 and 64 equations.
-pub fn small() -> Tally {
+pub(crate) fn small() -> Tally {
     let t = Tally {
         compared: 0,
         differ: 0,
@@ -244,7 +244,7 @@ fn sizes(n: u64, points: u64, by: u64, t: Tally) -> Tally {
 }
 
 // n = 20 and 64 equations, at 20 points from 0 to the end.
-pub fn large() -> Tally {
+pub(crate) fn large() -> Tally {
     let t = Tally {
         compared: 0,
         differ: 0,

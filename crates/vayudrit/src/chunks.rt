@@ -110,7 +110,7 @@ fn part(
 }
 
 // The search over all of the list.
-pub fn row(
+pub(crate) fn row(
     n: u64,
     m: u64,
     table: &[u64],
@@ -156,7 +156,7 @@ pub fn row(
 }
 
 // The search over bytes: the table's words are read into `words` first.
-pub fn over_bytes(
+pub(crate) fn over_bytes(
     n: u64,
     m: u64,
     table: &[u8],

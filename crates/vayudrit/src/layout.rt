@@ -11,7 +11,7 @@ ghost use Rattle.walks.specs.Calls.{stopNumber};
 ghost use Rattle.vayudrit.specs.Layout.{recordOf, recordWords, answerWords};
 
 // The record that 45 words stand for.
-pub fn record_of(w: &[u64]) -> Record
+pub(crate) fn record_of(w: &[u64]) -> Record
     requires { ⌜ length (now w) ≡ 45 ⌝ }
     ensures { λ r. ⌜ r ≡ recordOf (now (w .entry)) ⌝ }
 {
@@ -41,7 +41,7 @@ pub fn record_of(w: &[u64]) -> Record
 }
 
 // All of w becomes the 45 words of a record.
-pub fn put_record(r: Record, w: &mut [u64])
+pub(crate) fn put_record(r: Record, w: &mut [u64])
     requires { ⌜ length (now w) ≡ 45 ⌝ }
     ensures { λ _. ⌜ now (w .exit) ≡ recordWords r ⌝ }
 {
@@ -60,7 +60,7 @@ pub fn put_record(r: Record, w: &mut [u64])
 }
 
 // The record that 360 bytes stand for.
-pub fn read_record(b: &[u8]) -> Record
+pub(crate) fn read_record(b: &[u8]) -> Record
     requires { ⌜ length (now b) ≡ 360 ⌝ }
     ensures { λ r. ⌜ r ≡ recordOf (wordsOf 45 (now (b .entry))) ⌝ }
 {
@@ -70,7 +70,7 @@ pub fn read_record(b: &[u8]) -> Record
 }
 
 // All of b becomes the 360 bytes of a record.
-pub fn write_record(r: Record, b: &mut [u8])
+pub(crate) fn write_record(r: Record, b: &mut [u8])
     requires { ⌜ length (now b) ≡ 360 ⌝ }
     ensures { λ _. ⌜ now (b .exit) ≡ bytesFrom (recordWords r) ⌝ }
 {
@@ -90,7 +90,7 @@ fn stop_number(s: Stop) -> u64
 }
 
 // All of b becomes the 40 bytes of an answer, beside the record after the call.
-pub fn write_answer(r: Record, a: Report, b: &mut [u8])
+pub(crate) fn write_answer(r: Record, a: Report, b: &mut [u8])
     requires { ⌜ length (now b) ≡ 40 ⌝ }
     ensures { λ _. ⌜ now (b .exit) ≡ bytesFrom (answerWords r a) ⌝ }
 {

@@ -13,7 +13,7 @@ ghost use Rattle.vayudrit.specs.Operations.{room, single};
 ghost use Rattle.vayudrit.specs.Puts.{pointNumber, pointPut, placeNumber, placePut, balancedNumber, balancedPut, valuePut};
 
 // 1, then 2 of a result that has `count` entries and is to have `wanted`.
-pub fn room_for(n: u64, m: u64, count: usize, wanted: usize) -> Verdict
+pub(crate) fn room_for(n: u64, m: u64, count: usize, wanted: usize) -> Verdict
     ensures { λ r. ⌜ r ≡ room n m count wanted Done ⌝ }
 {
     if n < 1 {
@@ -35,7 +35,7 @@ pub fn room_for(n: u64, m: u64, count: usize, wanted: usize) -> Verdict
 }
 
 // The same where no m is given, and one entry is wanted.
-pub fn room_for_one(n: u64, count: usize) -> Verdict
+pub(crate) fn room_for_one(n: u64, count: usize) -> Verdict
     ensures { λ r. ⌜ r ≡ single n count Done ⌝ }
 {
     if n < 1 {
@@ -50,7 +50,7 @@ pub fn room_for_one(n: u64, count: usize) -> Verdict
     Verdict::Done
 }
 
-pub fn put_value(e: Evaluated, value: &mut [u64]) -> u64
+pub(crate) fn put_value(e: Evaluated, value: &mut [u64]) -> u64
     requires { ⌜ length (now value) ≡ 2 ⌝ }
     ensures { λ c. ⌜ (c ≡ evaluatedCode e) × (now (value .exit) ≡ valuePut e (now (value .entry))) ⌝ }
 {
@@ -64,7 +64,7 @@ pub fn put_value(e: Evaluated, value: &mut [u64]) -> u64
     }
 }
 
-pub fn put_point(a: PointAnswer, point: &mut [u64]) -> u64
+pub(crate) fn put_point(a: PointAnswer, point: &mut [u64]) -> u64
     requires { ⌜ length (now point) ≡ 1 ⌝ }
     ensures { λ c. ⌜ (c ≡ pointNumber a) × (now (point .exit) ≡ pointPut a (now (point .entry))) ⌝ }
 {
@@ -77,7 +77,7 @@ pub fn put_point(a: PointAnswer, point: &mut [u64]) -> u64
     }
 }
 
-pub fn put_place(a: PlaceAnswer, place: &mut [u64]) -> u64
+pub(crate) fn put_place(a: PlaceAnswer, place: &mut [u64]) -> u64
     requires { ⌜ length (now place) ≡ 1 ⌝ }
     ensures { λ c. ⌜ (c ≡ placeNumber a) × (now (place .exit) ≡ placePut a (now (place .entry))) ⌝ }
 {
@@ -90,7 +90,7 @@ pub fn put_place(a: PlaceAnswer, place: &mut [u64]) -> u64
     }
 }
 
-pub fn put_balanced(a: BalancedAnswer, number: &mut [i64]) -> u64
+pub(crate) fn put_balanced(a: BalancedAnswer, number: &mut [i64]) -> u64
     requires { ⌜ length (now number) ≡ 1 ⌝ }
     ensures { λ c. ⌜ (c ≡ balancedNumber a) × (now (number .exit) ≡ balancedPut a (now (number .entry))) ⌝ }
 {

@@ -154,7 +154,14 @@ fn closed(x: Part, rest: [Vector; 20]) -> Ran
 }
 
 // As many blocks of 27 as there is room for; none where the place is not above 0 or 27 does not divide it.
-pub fn blocks(table: &[u64], n: usize, end: u64, r: Ran, budget: u64, list: &mut [u64]) -> Ran
+pub(crate) fn blocks(
+    table: &[u64],
+    n: usize,
+    end: u64,
+    r: Ran,
+    budget: u64,
+    list: &mut [u64],
+) -> Ran
     requires { ⌜ Sized (now table) n end ⌝ }
     requires { ⌜ Sane end r (now list) ⌝ }
     ensures state { λ s. ⌜ searchOf (now (table .entry)) n end (budget - (s .walker .place - r .walker .place)) (stateOf s (now (list .exit))) ≡ searchOf (now (table .entry)) n end budget (stateOf r (now (list .entry))) ⌝ }

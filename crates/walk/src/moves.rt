@@ -26,7 +26,7 @@ pub struct Moved {
 }
 
 // The one addition of vectors in the walk: it counts 1.
-pub fn plus(a: Vector, b: Vector, additions: u64) -> Sum
+pub(crate) fn plus(a: Vector, b: Vector, additions: u64) -> Sum
     requires { ⌜ additions + 1 < 2 ^ 64 ⌝ }
     ensures { λ r. ⌜ (r .vector ≡ addOf a b) × (r .additions ≡ additions + 1) ⌝ }
 {
@@ -38,7 +38,7 @@ pub fn plus(a: Vector, b: Vector, additions: u64) -> Sum
 }
 
 // How many are found after a value at a place; the point of a zero is written at the first free entry of list.
-pub fn mark(n: usize, value: Vector, place: u64, found: usize, list: &mut [u64]) -> usize
+pub(crate) fn mark(n: usize, value: Vector, place: u64, found: usize, list: &mut [u64]) -> usize
     requires { ⌜ (n ≤ 20) × (found < length (now list)) ⌝ }
     ensures count { λ r. ⌜ r ≡ foundOf (isZero value) found ⌝ }
     ensures list { λ _. ⌜ now (list .exit) ≡ listOf (isZero value) (pointOf 3 n place) found (now (list .entry)) ⌝ }
@@ -54,7 +54,7 @@ pub fn mark(n: usize, value: Vector, place: u64, found: usize, list: &mut [u64])
 }
 
 // The same with the place itself: inside a block nothing is divided.
-pub fn jot(value: Vector, place: u64, found: usize, list: &mut [u64]) -> usize
+pub(crate) fn jot(value: Vector, place: u64, found: usize, list: &mut [u64]) -> usize
     requires { ⌜ found < length (now list) ⌝ }
     ensures count { λ r. ⌜ r ≡ foundOf (isZero value) found ⌝ }
     ensures list { λ _. ⌜ now (list .exit) ≡ listOf (isZero value) place found (now (list .entry)) ⌝ }
@@ -83,7 +83,7 @@ fn point_near(n: usize, place: u64, top: u64, high: u64) -> u64
 }
 
 // The places listed in entries from `from` to before `to`, likely of the block of the given place, become their points.
-pub fn points(n: usize, list: &mut [u64], place: u64, from: usize, to: usize)
+pub(crate) fn points(n: usize, list: &mut [u64], place: u64, from: usize, to: usize)
     requires { ⌜ (3 ≤ n) × (n ≤ 20) × (to ≤ length (now list)) ⌝ }
     ensures { λ _. ⌜ now (list .exit) ≡ turnedIn (pointOf 3 n) from (to - from) (now (list .entry)) ⌝ }
 {
@@ -103,7 +103,7 @@ pub fn points(n: usize, list: &mut [u64], place: u64, from: usize, to: usize)
 }
 
 // The move at a place, which is 3 to its first position b, times rest; nothing moves at place 0.
-pub fn head(
+pub(crate) fn head(
     table: &[u64],
     n: usize,
     place: u64,

@@ -146,7 +146,14 @@ fn nine(x: Part, t0h: Vector, t1h: Vector, top: Top, list: &mut [u64]) -> Part
 }
 
 // 27 places, where the first has been moved to.
-pub fn big(x: Part, t0h: Vector, t1h: Vector, t2h: Vector, top: Top, list: &mut [u64]) -> Part
+pub(crate) fn big(
+    x: Part,
+    t0h: Vector,
+    t1h: Vector,
+    t2h: Vector,
+    top: Top,
+    list: &mut [u64],
+) -> Part
     requires { ⌜ (x .found + 27 ≤ length (now list)) × (x .place + 27 < 2 ^ 64) × (x .additions + 52 < 2 ^ 64) ⌝ }
     ensures state { λ r. ⌜ ((rest : List Vector) → whole r rest (now (list .exit)) ≡ bigOf t0h t1h t2h top (whole x rest (now (list .entry)))) ⌝ }
     ensures went { λ r. ⌜ Went x r 27 52 ⌝ }

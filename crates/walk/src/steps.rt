@@ -23,7 +23,7 @@ fn going(left: u64, end: u64, place: u64, len: usize, found: usize) -> bool
 }
 
 // At most budget places, one by one, up to end or a full list. Nothing is copied from place to place.
-pub fn steps(table: &[u64], n: usize, end: u64, r: Ran, budget: u64, list: &mut [u64]) -> Ran
+pub(crate) fn steps(table: &[u64], n: usize, end: u64, r: Ran, budget: u64, list: &mut [u64]) -> Ran
     requires { ⌜ Sized (now table) n end ⌝ }
     requires { ⌜ Sane end r (now list) ⌝ }
     ensures state { λ s. ⌜ stateOf s (now (list .exit)) ≡ searchOf (now (table .entry)) n end budget (stateOf r (now (list .entry))) ⌝ }
