@@ -13,7 +13,7 @@ ghost use Rattle.tables.specs.Words.{legalFront};
 ghost use Rattle.tables.specs.Answers.{SizeTest, checkedOf, copyVerdict};
 
 // Whether n is 1 to 20 and m is 1 to 64.
-pub(crate) fn sizes(n: u64, m: u64) -> bool
+pub fn sizes(n: u64, m: u64) -> bool
     ensures { λ r. ⌜ SizeTest n m r ⌝ }
 {
     if n < 1 {
@@ -47,7 +47,7 @@ pub(crate) fn legal_front(m: u64, entries: usize, table: &[u64]) -> usize
 }
 
 // One table read, and another of `words` words to be written: all lengths come before the pairs.
-pub(crate) fn check_copy(n: u64, m: u64, from: &[u64], words: usize) -> Verdict
+pub fn check_copy(n: u64, m: u64, from: &[u64], words: usize) -> Verdict
     ensures { λ r. ⌜ ((to : List ℕ) → length to ≡ words → r ≡ copyVerdict n m (now (from .entry)) to) ⌝ }
 {
     if !sizes(n, m) {
