@@ -1,4 +1,3 @@
-pub mod ExactLaw
 pub mod CubicLaw
 pub mod Facts
 pub mod LinearLaw

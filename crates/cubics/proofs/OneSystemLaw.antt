@@ -24,7 +24,7 @@ use Rattle.cubics.proofs.LinearLaw.{entry-like, cubic-lin, cubic-quad}
 use Rattle.cubics.proofs.BackLaw.{table-back-two, table-back-all}
 use Rattle.cubics.proofs.BracketLaw.{triplesOf, all-same, all-other, entry-two, entry-all}
 use Rattle.cubics.proofs.AlikeLaw.{Agree, table-like, table-agree}
-use Rattle.cubics.proofs.ExactLaw.{pair-place, triple-same, triple-over}
+use Rattle.held.proofs.ExactLaw.{pair-place, triple-same, triple-over}
 
 two : 1 < 3
 two = omega arith

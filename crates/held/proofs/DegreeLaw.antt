@@ -42,22 +42,25 @@ unfolding walked
 walked-ext q d H G e zero L = e L
 walked-ext q d H G e (suc p) L = move-ext (plusMod q) d (positions q (suc p)) (walked q d H p) (walked q d G p) (λ M. walked-ext q d H G e p M) L
 
-module _ (q : ℕ) (two : 1 < q) (F : Fun) (ext : Ext q F) (d : ℕ) (degree : Flat q (suc d) F) where
-  -- ---- anything that stands for numbers modulo q
-  module _ {A : Type 0} (add : A → A → A) (R : A → ℕ → Type 0) (plus : (x y : A) (a b : ℕ) → R x a → R y b → R (add x y) (a + b))
-      (like : (x : A) (a b : ℕ) → R x a → Cong q a b → R x b) where
+-- ---- anything that stands for numbers modulo q
+module _ (q : ℕ) (two : 1 < q) (F : ℕ → Fun) (ext : (e : ℕ) → Ext q (F e)) (d : ℕ) (degree : (e : ℕ) → Flat q (suc d) (F e)) where
+  module _ {A : Type 0} (add : A → A → A) (Shows : (ℕ → ℕ) → A → Type 0)
+      (plus : (f g : ℕ → ℕ) (x y : A) → Shows f x → Shows g y → Shows (λ e. f e + g e) (add x y))
+      (like : (f g : ℕ → ℕ) (x : A) → ((e : ℕ) → Cong q (f e) (g e)) → Shows f x → Shows g x) where
     pub walk-step : (p : ℕ) (H : List ℕ → A) (K : List ℕ → Type 0)
         → ((k : ℕ) → k ≤ d → K (take k (positions q (suc p))))
-        → ((L : List ℕ) → length L ≤ d → K L → R (H L) (held q (along q F) L p))
-        → (L : List ℕ) → length L ≤ d → K L → R (move add d (positions q (suc p)) H L) (held q (along q F) L (suc p))
-    walk-step p H K f h L l k = move-held q add R plus like two (along q F) d p H K (λ M n. settled q two F ext d degree p M n) f h L l k
+        → ((L : List ℕ) → length L ≤ d → K L → Shows (λ e. held q (along q (F e)) L p) (H L))
+        → (L : List ℕ) → length L ≤ d → K L → Shows (λ e. held q (along q (F e)) L (suc p)) (move add d (positions q (suc p)) H L)
+    walk-step p H K f h L l k = move-held q add Shows plus like two (λ e. along q (F e)) d p H K (λ e M n. settled q two (F e) (ext e) d (degree e) p M n) f h L l k
 
-  -- ---- numbers: from the table the walk comes to what is held
+-- ---- numbers: from the table the walk comes to what is held
+module _ (q : ℕ) (two : 1 < q) (F : Fun) (ext : Ext q F) (d : ℕ) (degree : Flat q (suc d) F) where
   pub walk-means : (p : ℕ) (L : List ℕ) → length L ≤ d → walked q d (λ M. entry q (along q F) M % q) p L ≡ held q (along q F) L p % q
   unfolding walked held entry latestOf
   walk-means zero L l = refl
   walk-means (suc p) L l =
-      walk-step (plusMod q) (λ x a. x ≡ a % q) (λ x y a b e f. ap₂ (λ (u w : ℕ). (u + w) % q) e f ∙ sym (add-mod a b q)) (λ x a b e c. e ∙ c .same)
+      walk-step q two (λ e. F) (λ e. ext) d (λ e. degree) (plusMod q) (λ f x. x ≡ f 0 % q)
+      (λ f g x y s t. ap₂ (λ (u w : ℕ). (u + w) % q) s t ∙ sym (add-mod (f 0) (g 0) q)) (λ f g x c s. s ∙ c 0 .same)
       p (walked q d (λ M. entry q (along q F) M % q) p) (λ M. M ≡ M) (λ k n. refl) (λ M n k. walk-means p M n) L l refl
 
 -- ---- two functions with the same table have the same values at all places

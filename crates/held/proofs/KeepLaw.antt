@@ -1,4 +1,4 @@
--- The move keeps what is held: over any numbers, and over anything that stands for numbers and is added as they are.
+-- The move keeps what is held: over anything that stands for numbers, one of each equation, and is added as they are.
 use mathlib.Core.Path.{_≡_, refl, sym, ap, _∙_}
 use mathlib.Core.Bool.{Bool, true, false, _&&_}
 use mathlib.Core.List.{List, [], _∷_, _++_}
@@ -23,6 +23,12 @@ pub move-other : {A : Type 0} (add : A → A → A) (d b c : ℕ) (ps : List ℕ
 unfolding move
 move-other add d b c ps H L n = rw (same-other b c n, move)
 
+-- a place without positions moves nothing
+pub move-none : {A : Type 0} (add : A → A → A) (d : ℕ) (H : List ℕ → A) (L : List ℕ) → move add d [] H L ≡ H L
+unfolding move
+move-none add zero H L = refl
+move-none add (suc d) H L = refl
+
 -- the table's entries do not move
 pub move-leaf : {A : Type 0} (add : A → A → A) (d : ℕ) (ps : List ℕ) (H : List ℕ → A) (L : List ℕ) → d ≤ length L → move add d ps H L ≡ H L
 unfolding move
@@ -38,17 +44,18 @@ move-leaf add (suc d) (b ∷ ps) H (c ∷ L) l =
 abbrev pub Settled : ℕ → (ℕ → ℕ) → ℕ → ℕ → Type 0
 Settled q v d p = (L : List ℕ) → length L ≡ d → Cong q (held q v L (suc p)) (held q v L p)
 
--- x stands for a number modulo q, and add adds
-module _ (q : ℕ) {A : Type 0} (add : A → A → A) (R : A → ℕ → Type 0) (plus : (x y : A) (a b : ℕ) → R x a → R y b → R (add x y) (a + b))
-    (like : (x : A) (a b : ℕ) → R x a → Cong q a b → R x b) where
+-- x stands for a number modulo q of each equation e, and add adds them
+module _ (q : ℕ) {A : Type 0} (add : A → A → A) (Shows : (ℕ → ℕ) → A → Type 0)
+    (plus : (f g : ℕ → ℕ) (x y : A) → Shows f x → Shows g y → Shows (λ e. f e + g e) (add x y))
+    (like : (f g : ℕ → ℕ) (x : A) → ((e : ℕ) → Cong q (f e) (g e)) → Shows f x → Shows g x) where
   -- G is held before a place with the positions ps, and N after it, in degree d
-  pub record Turns (d : ℕ) (ps : List ℕ) (G N : List ℕ → ℕ) : Type 0 where
-    pub step : (L : List ℕ) (c : ℕ) (rest : List ℕ) → ps ≡ L ++ c ∷ rest → length L < d → Cong q (N L) (G L + N (L ++ c ∷ []))
-    pub last : Cong q (N ps) (G ps)
-    pub other : (L : List ℕ) → begins L ps ≡ false → Cong q (N L) (G L)
-    pub leaf : (L : List ℕ) → length L ≡ d → Cong q (N L) (G L)
+  record Turns (d : ℕ) (ps : List ℕ) (G N : List ℕ → ℕ → ℕ) : Type 0 where
+    step : (L : List ℕ) (c : ℕ) (rest : List ℕ) → ps ≡ L ++ c ∷ rest → length L < d → (e : ℕ) → Cong q (N L e) (G L e + N (L ++ c ∷ []) e)
+    last : (e : ℕ) → Cong q (N ps e) (G ps e)
+    other : (L : List ℕ) → begins L ps ≡ false → (e : ℕ) → Cong q (N L e) (G L e)
+    leaf : (L : List ℕ) → length L ≡ d → (e : ℕ) → Cong q (N L e) (G L e)
 
-  deeper : (d b : ℕ) (ps : List ℕ) (G N : List ℕ → ℕ) → Turns (suc d) (b ∷ ps) G N → Turns d ps (λ L. G (b ∷ L)) (λ L. N (b ∷ L))
+  deeper : (d b : ℕ) (ps : List ℕ) (G N : List ℕ → ℕ → ℕ) → Turns (suc d) (b ∷ ps) G N → Turns d ps (λ L. G (b ∷ L)) (λ L. N (b ∷ L))
   unfolding begins
   deeper d b ps G N t =
       record {
@@ -63,47 +70,47 @@ module _ (q : ℕ) {A : Type 0} (add : A → A → A) (R : A → ℕ → Type 0)
       ends false = refl
 
   -- K are the lists that are kept: the first positions of the place among them
-  pub carried : (d : ℕ) (ps : List ℕ) (H : List ℕ → A) (G N : List ℕ → ℕ) (K : List ℕ → Type 0) → Turns d ps G N
-      → ((k : ℕ) → k ≤ d → K (take k ps)) → ((L : List ℕ) → length L ≤ d → K L → R (H L) (G L))
-      → (L : List ℕ) → length L ≤ d → K L → R (move add d ps H L) (N L)
+  carried : (d : ℕ) (ps : List ℕ) (H : List ℕ → A) (G N : List ℕ → ℕ → ℕ) (K : List ℕ → Type 0) → Turns d ps G N
+      → ((k : ℕ) → k ≤ d → K (take k ps)) → ((L : List ℕ) → length L ≤ d → K L → Shows (G L) (H L))
+      → (L : List ℕ) → length L ≤ d → K L → Shows (N L) (move add d ps H L)
   unfolding move begins
-  carried zero ps H G N K t f h [] l k = like (H []) (G []) (N []) (h [] l k) (csym (t .leaf [] refl))
+  carried zero ps H G N K t f h [] l k = like (G []) (N []) (H []) (λ e. csym (t .leaf [] refl e)) (h [] l k)
   carried zero ps H G N K t f h (c ∷ L) l k = absurd (omega arith)
-  carried (suc d) [] H G N K t f h [] l k = like (H []) (G []) (N []) (h [] l k) (csym (t .last))
-  carried (suc d) [] H G N K t f h (c ∷ L) l k = like (H (c ∷ L)) (G (c ∷ L)) (N (c ∷ L)) (h (c ∷ L) l k) (csym (t .other (c ∷ L) refl))
+  carried (suc d) [] H G N K t f h [] l k = like (G []) (N []) (H []) (λ e. csym (t .last e)) (h [] l k)
+  carried (suc d) [] H G N K t f h (c ∷ L) l k = like (G (c ∷ L)) (N (c ∷ L)) (H (c ∷ L)) (λ e. csym (t .other (c ∷ L) refl e)) (h (c ∷ L) l k)
   carried (suc d) (b ∷ ps) H G N K t f h [] l k =
-      let one : R (move add d ps (λ M. H (b ∷ M)) []) (N (b ∷ []))
+      let r = move add d ps (λ M. H (b ∷ M)) [] in
+      let one : Shows (N (b ∷ [])) r
       = carried d ps (λ M. H (b ∷ M)) (λ M. G (b ∷ M)) (λ M. N (b ∷ M)) (λ M. K (b ∷ M)) (deeper d b ps G N t) (λ j g. f (suc j) (omega arith)) (λ M g m. h (b ∷ M) (omega arith) m)
       [] (omega arith) (f 1 (omega arith)) in
-      like (add (H []) (move add d ps (λ M. H (b ∷ M)) [])) (G [] + N (b ∷ [])) (N []) (plus (H []) (move add d ps (λ M. H (b ∷ M)) []) (G []) (N (b ∷ [])) (h [] l k) one)
-      (csym (t .step [] b ps refl (omega arith)))
+      like (λ e. G [] e + N (b ∷ []) e) (N []) (add (H []) r) (λ e. csym (t .step [] b ps refl (omega arith) e)) (plus (G []) (N (b ∷ [])) (H []) r (h [] l k) one)
   carried (suc d) (b ∷ ps) H G N K t f h (c ∷ L) l k =
       by-cases (ℕ-discrete b c)
       (λ (e : b ≡ c).
       let g : K (b ∷ L) = rw e k in
-      let r : R (move add d ps (λ M. H (b ∷ M)) L) (N (b ∷ L))
+      let r : Shows (N (b ∷ L)) (move add d ps (λ M. H (b ∷ M)) L)
       = carried d ps (λ M. H (b ∷ M)) (λ M. G (b ∷ M)) (λ M. N (b ∷ M)) (λ M. K (b ∷ M)) (deeper d b ps G N t) (λ j u. f (suc j) (omega arith)) (λ M u m. h (b ∷ M) (omega arith) m)
       L (omega arith) g in
-      let s : R (move add (suc d) (b ∷ ps) H (b ∷ L)) (N (b ∷ L)) = rw (move-self add d b ps H L) r in
+      let s : Shows (N (b ∷ L)) (move add (suc d) (b ∷ ps) H (b ∷ L)) = rw (move-self add d b ps H L) r in
       rw (← e) s)
       (λ n.
       let o : (eqb c b && begins L ps) ≡ false = ap (λ (x : Bool). x && begins L ps) (ne-eqb c b (λ e. n (sym e))) in
-      let s : R (H (c ∷ L)) (N (c ∷ L)) = like (H (c ∷ L)) (G (c ∷ L)) (N (c ∷ L)) (h (c ∷ L) l k) (csym (t .other (c ∷ L) o)) in
+      let s : Shows (N (c ∷ L)) (H (c ∷ L)) = like (G (c ∷ L)) (N (c ∷ L)) (H (c ∷ L)) (λ e. csym (t .other (c ∷ L) o e)) (h (c ∷ L) l k) in
       rw (move-other add d b c ps H L n) s)
 
-  -- ---- the walk: one place more
-  module _ (two : 1 < q) (v : ℕ → ℕ) where
-    held-turns : (d p : ℕ) → Settled q v d p → Turns d (positions q (suc p)) (λ L. held q v L p) (λ L. held q v L (suc p))
+  -- ---- the walk: one place more, for the values v e of each equation
+  module _ (two : 1 < q) (v : ℕ → ℕ → ℕ) where
+    held-turns : (d p : ℕ) → ((e : ℕ) → Settled q (v e) d p) → Turns d (positions q (suc p)) (λ L e. held q (v e) L p) (λ L e. held q (v e) L (suc p))
     held-turns d p s =
         record {
-          step = λ L c rest e l. held-step q two v L c rest p e;
-          last = cof (held-last q two v (positions q (suc p)) p refl);
-          other = λ L e. cof (held-other q two v L p e);
-          leaf = s;
+          step = λ L c rest i l e. held-step q two (v e) L c rest p i;
+          last = λ e. cof (held-last q two (v e) (positions q (suc p)) p refl);
+          other = λ L i e. cof (held-other q two (v e) L p i);
+          leaf = λ L i e. s e L i;
         }
 
-    pub move-held : (d p : ℕ) (H : List ℕ → A) (K : List ℕ → Type 0) → Settled q v d p
+    pub move-held : (d p : ℕ) (H : List ℕ → A) (K : List ℕ → Type 0) → ((e : ℕ) → Settled q (v e) d p)
         → ((k : ℕ) → k ≤ d → K (take k (positions q (suc p))))
-        → ((L : List ℕ) → length L ≤ d → K L → R (H L) (held q v L p))
-        → (L : List ℕ) → length L ≤ d → K L → R (move add d (positions q (suc p)) H L) (held q v L (suc p))
-    move-held d p H K s f h L l k = carried d (positions q (suc p)) H (λ M. held q v M p) (λ M. held q v M (suc p)) K (held-turns d p s) f h L l k
+        → ((L : List ℕ) → length L ≤ d → K L → Shows (λ e. held q (v e) L p) (H L))
+        → (L : List ℕ) → length L ≤ d → K L → Shows (λ e. held q (v e) L (suc p)) (move add d (positions q (suc p)) H L)
+    move-held d p H K s f h L l k = carried d (positions q (suc p)) H (λ M e. held q (v e) M p) (λ M e. held q (v e) M (suc p)) K (held-turns d p s) f h L l k

@@ -10,3 +10,5 @@ pub mod FlatLaw
 pub mod ConstantLaw
 pub mod DegreeLaw
 pub mod ValuesLaw
+pub mod ExactLaw
+pub mod StandLaw

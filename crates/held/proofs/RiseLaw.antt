@@ -8,12 +8,8 @@ use lib.ListN.{take}
 use Rattle.gray.specs.Positions.{positions}
 use Rattle.gray.proofs.LowestLaw.{of-lt}
 use Rattle.gray.proofs.PositionLaw.{positions-none}
+use Rattle.held.specs.Stands.{Rises}
 use Rattle.held.proofs.StemLaw.{split, joined, lowest-at, positions-at}
-
--- from c on, none below the one before, all below n
-abbrev pub Rises : ℕ → ℕ → List ℕ → Type 0
-Rises c n [] = 0 ≤ n
-Rises c n (b ∷ L) = (c ≤ b) × (b < n) × Rises b n L
 
 pub rises-take : (k c n : ℕ) (L : List ℕ) → Rises c n L → Rises c n (take k L)
 rises-take zero c n L r = omega arith
