@@ -32,8 +32,8 @@ use Rattle.walk.specs.declared.Ran.{Ran}
 use Rattle.walk.specs.declared.Walker.{Walker}
 use Rattle.walk.specs.Step.{State, walkOf}
 use Rattle.walk.specs.Run.{stateOf, fresh, product, haltOf, searchOf}
-use Rattle.walk.specs.Meaning.{Good, Sees, Stands, Tabled, Answers}
-use Rattle.walk.proofs.MeanLaw.{stands-value, stands-slot}
+use Rattle.walk.specs.Meaning.{Stands, Tabled, Answers}
+use Rattle.walk.proofs.MeanLaw.{stands-value, stands-slot, opened-stands, differences-tabled}
 use Rattle.walk.proofs.CallLaw.{call-is}
 use Rattle.search.specs.declared.Record.{Record}
 use Rattle.search.specs.declared.Outcome.{Outcome}
@@ -62,10 +62,6 @@ module _ (n m : ℕ) (t : List ℕ) where
   unfolding slotAt
   slot-used q b h = ap (λ (z : Bool). slotOr z (ofTrits m (λ e. changeOf 3 (S e) n b (pointDigit 3 (latest 3 b q - 1))))) (lt-ltb b n h)
 
-  slot-legal : (q b : ℕ) → Legal m (slotAt n m t q b)
-  slot-legal q b =
-      by-cases (decLt b n) (λ h. rw (slot-used q b h) (legal-of m _)) (λ h. rw (slot-none n m t q b (omega arith)) (legal-none m))
-
   -- a slot of the list, also past its end
   at-slot : (q i : ℕ) → i < 20 → getD (slotsAt n m t q 0 20) i none ≡ slotAt n m t q i
   at-slot q i h = slots-at n m t q 0 20 i h ∙ ap (slotAt n m t q) (plain i)
@@ -76,52 +72,24 @@ module _ (n m : ℕ) (t : List ℕ) where
   past-slot : (q i : ℕ) → 20 ≤ i → getD (slotsAt n m t q 0 20) i none ≡ none
   past-slot q i h = List·getD-eq-default (slotsAt n m t q 0 20) none (omega (arith, slots-length n m t q 0 20))
 
-  value-legal : (q : ℕ) → Legal m (valueAt n m t q)
-  unfolding valueAt
-  value-legal q = legal-of m _
-
-  value-trit : (q e : ℕ) → e < m → trit (valueAt n m t q) e ≡ eval (S e) n (pointDigit 3 q) % 3
-  unfolding valueAt
-  value-trit q e h = trit-of m (λ e. valueOf (S e) n (pointDigit 3 q)) e h ∙ ap (λ (x : ℕ). x % 3) (sym (eval-value (S e) n (pointDigit 3 q)))
-
-  slot-trit : (q b e : ℕ) → b < n → e < m → trit (slotAt n m t q b) e ≡ diff (S e) n b (pointDigit 3 (latest 3 b q - 1)) % 3
-  slot-trit q b e h l =
-      let x = pointDigit 3 (latest 3 b q - 1) in
-      ap (λ (v : Vector). trit v e) (slot-used q b h) ∙ trit-of m (λ e. changeOf 3 (S e) n b x) e l
-      ∙ ap (λ (y : ℕ). y % 3) (sym (diff-change 3 two (S e) n b x h)) ∙ mod-mod (diff (S e) n b x) 3
-
   abbrev walkerAt : ℕ → Walker
   walkerAt p = record { place = p; value = valueAt n m t (p - 1); slots = slotsAt n m t (p - 1) 0 20 }
 
   pub stands-open : n ≤ 20 → (p : ℕ) (l : List ℕ) → Stands S n m p (fresh (walkerAt p) l)
+  unfolding valueAt
   stands-open small p l =
-      record {
-        place = refl;
-        good = record {
-          value = value-legal (p - 1);
-          slots = λ i. by-cases (decLt i 20)
-              (λ h. rw (at-slot (p - 1) i h) (slot-legal (p - 1) i))
-              (λ h. rw (past-slot (p - 1) i (omega arith)) (legal-none m));
-        };
-        sees = λ e h. record {
-          place = refl;
-          room = omega (arith, slots-length n m t (p - 1) 0 20);
-          value = value-trit (p - 1) e h;
-          slots = λ b k. ap (λ (v : Vector). trit v e) (at-slot (p - 1) b (omega arith)) ∙ slot-trit (p - 1) b e k h;
-        };
-        rest = λ i h. by-cases (decLt i 20)
-            (λ k. at-slot (p - 1) i k ∙ slot-none n m t (p - 1) i h)
-            (λ k. past-slot (p - 1) i (omega arith));
-      }
+      opened-stands S n m p (fresh (walkerAt p) l) refl (omega (arith, slots-length n m t (p - 1) 0 20)) refl
+      (λ b h. at-slot (p - 1) b (omega arith) ∙ slot-used (p - 1) b h)
+      (λ i h. by-cases (decLt i 20) (λ k. at-slot (p - 1) i k ∙ slot-none n m t (p - 1) i h) (λ k. past-slot (p - 1) i (omega arith)))
 
   -- ---- the table holds the differences of the system
   pub tabled : checkedOf n m t ≡ verdict.Done → Tabled S n m (product t n)
   unfolding systemOf polyAt
   tabled ok =
-      record {
-        legal = λ b c h l. table-legal n m t ok .legal _ (index-lt n b c h l);
-        entry = λ e b c k h l. sym (table-back 3 two 2 half-three (polyAt n t e) b c (trit-lt (entry t (indexOf n b c)) e));
-      }
+      differences-tabled S n m (product t n) (λ b c h l. table-legal n m t ok .legal _ (index-lt n b c h l))
+      (λ e b c k h l.
+      let small = trit-lt (entry t (indexOf n b c)) e in
+      sym (mod-eq-of-lt small) ∙ ap (λ (x : ℕ). x % 3) (sym (table-back 3 two 2 half-three (polyAt n t e) b c small)))
 
   -- ---- a state that stands at p is the record opened at p
   pub opened-at : (p : ℕ) (s : State) → length (s .slots) ≡ 20 → Stands S n m p s

@@ -16,7 +16,7 @@ use Rattle.polynomials.specs.Poly.{Poly, valueOf, bumped, changeOf, prev, table
 use Rattle.tables.specs.Monomials.{countOf, rowStart, indexOf, productNth, nth}
 use Rattle.tables.specs.Words.{entry, tabled, legalFront, polyAt, wordsOf, packed, differencesOf}
 use Rattle.walks.specs.Calls.{Trail, zerosIn, costIn, pointsIn, reportOf, listAfter, stopNumber}
-use Rattle.walk.specs.Meaning.{zeros}
+use Rattle.held.specs.Stands.{zeros}
 use Rattle.search.specs.declared.Outcome.{Outcome}
 use Rattle.search.specs.declared.Answer.{Answer}
 use Rattle.search.specs.declared.Answer.the-variants.{Ran, Refused}
