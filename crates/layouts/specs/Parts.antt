@@ -13,7 +13,8 @@ use Rattle.search.specs.declared.Record.{Record}
 use Rattle.layouts.specs.declared.Input.{Input}
 use Rattle.layouts.specs.declared.Input.the-variants.{Bytes, Failed}
 use Rattle.layouts.specs.declared.session.Session.{Session}
-use Rattle.texts.specs.Text.{layoutLines, headLine, totalsLine, refusalLine}
+use Rattle.texts.specs.Text.{refusalLine}
+use Rattle.listing.specs.Listing.{layoutLines, headLine, totalsLine}
 use Rattle.layouts.specs.Output.{Standing, leftIf}
 
 -- the bytes b that are to be written hold a refusal, and the session is over
