@@ -1,54 +1,34 @@
 -- Demand 3 of the search: the laws of runs of calls, at the walk of a table.
 use mathlib.Core.Path.{_≡_, refl, sym, ap, ap₂, _∙_}
-use mathlib.Core.Bool.{Bool, true, false, _&&_, _||_}
-use mathlib.Core.Logic.{_↔_, by-cases}
-use mathlib.Core.List.{List, [], _∷_, map}
-use Prim.Native.Nat.{ℕ, zero, suc, _+_, _-_, _*_, _%_, _^_, _≤_, _<_}
-use native.Mathlib.Decide.{ℕ-discrete}
+use mathlib.Core.Bool.{true}
+use mathlib.Core.Logic.{_↔_}
+use mathlib.Core.List.{List, map}
+use Prim.Native.Nat.{ℕ, zero, suc, _-_, _*_, _%_, _^_, _≤_, _<_}
+use native.Mathlib.Nat.{zero-add, one-le-pow}
 use native.Mathlib.Omega.{arith}
-use lib.Dec.{eqb}
-use lib.ListN.{length}
-use borrow.Author.Tests.{eqb-true, eq-eqb, eqb-false}
 use Rattle.refusals.specs.declared.Verdict.the-variants as verdict
-use Rattle.residues.specs.Sums.{sum}
-use Rattle.residues.proofs.SumLaw.{sum-ext}
-use Rattle.trits.proofs.Bits.{and-left, and-right}
 use Rattle.gray.specs.Numbers.{digit, pointDigit, pointOf}
 use Rattle.gray.proofs.MapLaw.{point-lt, point-digit, point-same, point-onto}
 use Rattle.polynomials.specs.Poly.{Poly, valueOf}
 use Rattle.tables.specs.Answers.{checkedOf}
-use Rattle.walks.specs.Calls.{Trail, Call, AllFair, totalsOf, zerosIn, costIn, Demand3}
-use Rattle.walks.specs.Zeros.{Holds, Once, Distinct, placesIn}
+use Rattle.walks.specs.Calls.{Trail, costIn}
+use Rattle.walks.specs.Runs.{Request, Sums, SaysEnded, WholeRun, askedIn}
+use Rattle.walks.specs.Zeros.{Distinct, placesIn}
 use Rattle.walks.specs.Cost.{costOf}
-use Rattle.walks.proofs.JoinLaw.{ends, demand3}
-use Rattle.walks.proofs.ZeroLaw.{run-holds, run-once, run-order}
+use Rattle.walks.proofs.RunsLaw.{Adds, sums-are, ended-iff, calls-enough, calls-end, whole-run, run-once}
 use Rattle.walks.proofs.CostLaw.{whole-two}
 use Rattle.walk.proofs.CallLaw.{zeros-all, all-zeros}
+use Rattle.search.specs.declared.Record.{Record}
 use Rattle.search.specs.Opened.{systemOf, openedAt}
 use Rattle.search.specs.Search.{trailOf}
-use Rattle.search.specs.Session.{Request, Sums, sessionOf, fairOf, callsOf}
+use Rattle.search.specs.Session.{callOf}
 use Rattle.search.specs.Demand.{CommonZero, fromStart, WholeWalk}
 use Rattle.search.proofs.PlaceLaw.{two}
 use Rattle.search.proofs.SystemLaw.{value-at}
-use Rattle.search.proofs.SessionLaw.{Same, session-is}
+use Rattle.search.proofs.SessionLaw.{serves, willing}
 
 trans-iff : {A B C : Type 0} → A ↔ B → B ↔ C → A ↔ C
 trans-iff f g = (λ a. g .0 (f .0 a), λ c. f .1 (g .1 c))
-
-fair-one : (q : Request) (cs : List Call) → AllFair cs → (x y : Bool) → eqb (q .budget) 0 ≡ x → eqb (length (q .list)) 0 ≡ y
-    → AllFair (fairOf (x || y) (record { budget = q .budget; room = length (q .list) }) cs)
-fair-one q cs f true y eb el = f
-fair-one q cs f false true eb el = f
-fair-one q cs f false false eb el = (record { budget = above (q .budget) (eqb-false _ _ eb); room = above (length (q .list)) (eqb-false _ _ el) }, f)
-  where
-    above : (x : ℕ) → (x ≡ 0 → ⊥) → 0 < x
-    above x h = omega arith
-
--- the calls of a session are fair
-pub calls-fair : (qs : List Request) → AllFair (callsOf qs)
-unfolding callsOf
-calls-fair [] = tt
-calls-fair (q ∷ qs) = fair-one q (callsOf qs) (calls-fair qs) (eqb (q .budget) 0) (eqb (length (q .list)) 0) refl refl
 
 module _ (n m : ℕ) (t : List ℕ) where
   abbrev T : Trail
@@ -89,35 +69,50 @@ module _ (n m : ℕ) (t : List ℕ) where
     ),
   )
 
+  in-order : map (T .entry) (placesIn T 0 (T .end)) ≡ map (pointOf 3 n) (placesIn T 0 (3 ^ n))
+  unfolding trailOf
+  in-order = refl
+
+  some-places : 0 < T .end
+  unfolding trailOf
+  some-places = one-le-pow n 3 (omega arith)
+
   module _ (ok : checkedOf n m t ≡ verdict.Done) (qs : List Request) where
-    same : Same n m t (fromStart n m t qs) (totalsOf T 0 (callsOf qs))
-    same = session-is n m t ok qs 0 (omega arith)
+    abbrev given : Sums Record
+    given = fromStart n m t qs
 
-    -- the record's place tells whether the walk has ended
-    pub place-is : fromStart n m t qs .last .place .0 ≡ totalsOf T 0 (callsOf qs) .place
+    sums : Adds T (openedAt n m t) (callOf n m t) 0 (openedAt n m t 0) qs
+    sums = sums-are T (openedAt n m t) (callOf n m t) (serves n m t ok) 0 qs (omega arith)
+
+    -- the record's place is the number of points told
+    pub place-is : given .last .place .0 ≡ given .points
     unfolding openedAt
-    place-is = ap (λ r. r .place .0) (same .last)
+    place-is = ap (λ r. r .place .0) (sums .last) ∙ zero-add (given .points)
 
-    in-order : Demand3 T (callsOf qs) → totalsOf T 0 (callsOf qs) .list ≡ map (pointOf 3 n) (placesIn T 0 (3 ^ n))
-    unfolding trailOf
-    in-order d = run-order T (callsOf qs) d
+    -- the last answer is "ended" exactly where the record has come to place 3^n
+    pub ended-is : SaysEnded (given .told) ↔ (given .last .place .0 ≡ 3 ^ n)
+    ended-is =
+        let i = ended-iff T (openedAt n m t) (callOf n m t) (serves n m t ok) 0 qs some-places in
+        (λ e. place-is ∙ sym (zero-add _) ∙ i .0 e ∙ end-is, λ e. i .1 (zero-add _ ∙ sym place-is ∙ e ∙ sym end-is))
 
     -- demand 3
-    pub whole-walk : fromStart n m t qs .last .place .0 ≡ 3 ^ n → WholeWalk n m t qs
+    pub whole-walk : SaysEnded (given .told) → WholeWalk n m t qs
     whole-walk e =
-        let d : Demand3 T (callsOf qs) = demand3 T (callsOf qs) (calls-fair qs) (sym place-is ∙ e ∙ sym end-is) in
+        let d : WholeRun T (openedAt n m t) (callOf n m t) qs = whole-run T (openedAt n m t) (callOf n m t) (serves n m t ok) qs some-places e in
         record {
           each = d .each;
-          all = λ x. rw (same .listed) (trans-iff (run-holds T (callsOf qs) d x) (zero-iff x));
-          once = rw (same .listed) (run-once T (callsOf qs) d distinct);
-          order = same .listed ∙ in-order d;
-          points = same .points ∙ d .points ∙ end-is;
-          additions = same .additions ∙ d .additions ∙ ap (costIn T 0) end-is ∙ cost-all;
+          last = d .last ∙ ap (openedAt n m t) end-is;
+          all = λ x. trans-iff (d .all x) (zero-iff x);
+          once = run-once T (openedAt n m t) (callOf n m t) qs d distinct;
+          order = d .order ∙ in-order;
+          points = d .points ∙ end-is;
+          additions = d .additions ∙ ap (costIn T 0) end-is ∙ cost-all;
         }
 
-    -- a run of as many calls as there are points has ended
-    pub always-ends : 3 ^ n ≤ length (callsOf qs) → fromStart n m t qs .last .place .0 ≡ 3 ^ n
-    always-ends l = place-is ∙ ends T 0 (callsOf qs) (omega arith) (calls-fair qs) (enough (T .end) end-is l) ∙ end-is
-      where
-        enough : (x : ℕ) → x ≡ 3 ^ n → 3 ^ n ≤ length (callsOf qs) → x - 0 ≤ length (callsOf qs)
-        enough x e h = omega arith
+    -- a run with as many requests that ask for something as there are points has ended
+    pub always-ends : 3 ^ n ≤ askedIn qs → SaysEnded (given .told)
+    always-ends l =
+        let s = serves n m t ok in
+        let k : T .end - 0 ≤ askedIn qs = omega (arith, end-is) in
+        let c = calls-enough T (openedAt n m t) (callOf n m t) s 0 qs (willing n m t ok) (omega arith) k in
+        ended-iff T (openedAt n m t) (callOf n m t) s 0 qs some-places .1 (calls-end T (openedAt n m t) (callOf n m t) s 0 qs (omega arith) c)
