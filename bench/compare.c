@@ -91,7 +91,7 @@ static void find_cases(void) {
 static void mark_runs(struct release *r, const struct bench_case *c) {
     char title[MOST_WORDS];
     case_title(c, title);
-    for (int k = 0; k < ENGINES; k++) {
+    for (int k = ENGINES - 1; k >= 0; k--) { /* the library first */
         int required = k == PLAIN || k == LIBRARY;
         if (c->run[k].has_number || (!required && !c->run[k].present)) continue;
         r->faulty = 1;
@@ -208,7 +208,7 @@ static struct ratio ratio_at(const struct row *row, unsigned k) {
 }
 
 enum { FASTER, SLOWER, NO_DIFFERENCE, TOO_FEW_ROUNDS, JUDGEMENTS };
-static const char *const judgements[JUDGEMENTS] = {"faster", "slower", "no difference", "too few rounds to say"};
+static const char *const judgements[JUDGEMENTS] = {"faster", "slower", "no difference", "too few rounds"};
 
 static int judge_ratios(struct ratio now, struct ratio before) {
     int overlap = now.low <= before.high && before.low <= now.high;
@@ -268,7 +268,7 @@ static unsigned summarise(char lines[2][MOST_MARK]) {
 
 /* What a case's line says in place of a number. */
 static const char *words_at(const struct row *row, unsigned k) {
-    if (releases[k]->results.fault[0] != '\0') return "the file cannot be read";
+    if (releases[k]->results.fault[0] != '\0') return releases[k]->results.fault;
     if (row->of[k] == NULL) return "no such case";
     if (!row->of[k]->run[LIBRARY].present) return "no run of the library";
     if (!row->of[k]->run[LIBRARY].has_number) return row->of[k]->run[LIBRARY].verdict;
@@ -347,7 +347,7 @@ static void write_table(FILE *f) {
 
 /* ---- picture ---- */
 
-enum { WIDE = 1200, EDGE = 30, COLUMNS = 2, PANEL = 560, PANEL_GAP = 20, NAME_END = 34, BARS = 230, BAR = 26, LINE = 36,
+enum { WIDE = 1200, EDGE = 30, COLUMNS = 2, PANEL = 560, PANEL_GAP = 20, NAME_END = 34, BARS = 200, BAR = 26, LINE = 36,
        PANEL_HEAD = 64, PANEL_FOOT = 26, TEXT = 30 };
 
 static double panel_height(void) { return PANEL_HEAD + LINE * release_count + PANEL_FOOT; }
@@ -371,26 +371,43 @@ static void draw_bar(FILE *f, const struct row *row, unsigned k, double x, doubl
     fprintf(f, "<path class=\"range\" d=\"M%.1f %.1fV%.1fM%.1f %.1fH%.1fM%.1f %.1fV%.1f\"/>\n", x + scale * ratio.low,
             centre - 6, centre + 6, x + scale * ratio.low, centre, x + scale * ratio.high, x + scale * ratio.high,
             centre - 6, centre + 6);
-    write_text(f, x + BARS + 12, y + BAR - 6, is_best(row, k) ? "number best" : "number", "%.*f \xc3\x97 plain%s%s",
+    write_text(f, x + BARS + 12, y + BAR - 6, is_best(row, k) ? "number best" : "number", "ended, %.*f \xc3\x97 plain%s%s",
                ratio.middle < 10 ? 2 : 1, ratio.middle,
                k >= good_count ? ", lacks cases" : k == 0 ? "" : ", ",
                k >= good_count || k == 0 ? "" : judgements[judge_ratios(ratio, ratio_at(row, k - 1))]);
 }
 
+/* The words of a release without a bar: of a fault in its file without the line, of a verdict its first part. */
+static void draw_words(FILE *f, const struct row *row, unsigned k, double x, double y) {
+    const char *words = words_at(row, k);
+    if (releases[k]->results.fault[0] != '\0' && strstr(words, ": ") != NULL) words = strstr(words, ": ") + 2;
+    write_text(f, x + 8, y + BAR - 6, "words", "%.*s", (int)strcspn(words, ":"), words);
+}
+
+/* The lines of 0 and of plain go down to the last bar. */
+static double height_of_bars(const struct row *row) {
+    unsigned lines = 0;
+    for (unsigned k = 0; k < release_count; k++)
+        if (has_ratio(row, k)) lines = k + 1;
+    return (double)LINE * lines;
+}
+
 static void draw_panel(FILE *f, const struct row *row, double x, double y) {
-    double bars = x + NAME_END, plain = bars + scale_of(row);
+    double bars = x + NAME_END, plain = bars + scale_of(row), down = height_of_bars(row);
     char title[MOST_WORDS];
     case_title(row->any, title);
     write_text(f, x, y + 24, "case", "%s", title);
-    write_text(f, plain, y + 52, plain > bars + 40 ? "plain middle" : "plain", "plain");
-    fprintf(f, "<path class=\"zero\" d=\"M%.1f %.1fv%.1f\"/>\n", bars, y + PANEL_HEAD - 6.0, (double)LINE * release_count);
+    if (down > 0) {
+        write_text(f, plain, y + 52, plain > bars + 40 ? "plain middle" : "plain", "plain");
+        fprintf(f, "<path class=\"zero\" d=\"M%.1f %.1fv%.1f\"/>\n", bars, y + PANEL_HEAD - 6.0, down);
+    }
     for (unsigned k = 0; k < release_count; k++) {
         double line = y + PANEL_HEAD + LINE * k;
         write_text(f, x + 4, line + BAR - 6, marked(releases[k]) ? "letter words" : "letter", "%c", letter(k));
         if (has_ratio(row, k)) draw_bar(f, row, k, bars, line);
-        else write_text(f, bars + 8, line + BAR - 6, "words", "%.*s", (int)strcspn(words_at(row, k), ":"), words_at(row, k));
+        else draw_words(f, row, k, bars, line);
     }
-    fprintf(f, "<path class=\"one\" d=\"M%.1f %.1fv%.1f\"/>\n", plain, y + PANEL_HEAD - 6.0, (double)LINE * release_count);
+    if (down > 0) fprintf(f, "<path class=\"one\" d=\"M%.1f %.1fv%.1f\"/>\n", plain, y + PANEL_HEAD - 6.0, down);
 }
 
 /* A line of text that wraps at so many characters; the height after it. */
@@ -442,7 +459,7 @@ static double draw_head(FILE *f) {
     y = write_wrapped(f, EDGE, y + 8, "note", 108, "Plain is a C loop with divisions, gcc -O3, on the same systems in the "
                       "same run: 1 is as fast as plain, 0.5 takes half its time. Shorter is better. Each case has a scale of "
                       "its own from 0; the dashed line is plain. The thin line shows the lowest and highest of five groups of "
-                      "rounds. Faster, slower: than the release above.");
+                      "rounds. Faster, slower: than the release above. Only runs that ended with the right counts have a bar.");
     return y + 6;
 }
 
@@ -458,7 +475,8 @@ static void write_picture(FILE *f) {
             ".note, .plain { fill: #555 } .plain { font-size: 18px } .middle { text-anchor: middle } "
             ".words { fill: #a83c00 } .zero { stroke: #1a1a1a; stroke-width: 2 } .one { stroke: #1a1a1a; stroke-width: 2; "
             "stroke-dasharray: 6 4 } .range { stroke: #1a1a1a; stroke-width: 2; fill: none }</style>\n"
-            "<rect width=\"%d\" height=\"%.0f\" fill=\"#fff\"/>\n", WIDE, high, WIDE, high, WIDE, high);
+            "<title>Time against a plain C walk, by release</title>\n<rect width=\"%d\" height=\"%.0f\" fill=\"#fff\"/>\n",
+            WIDE, high, WIDE, high, WIDE, high);
     draw_head(f);
     for (unsigned k = 0; k < row_count; k++)
         draw_panel(f, &rows[k], EDGE + (k % COLUMNS) * (PANEL + PANEL_GAP), top + (k / COLUMNS) * panel_height());
