@@ -24,13 +24,14 @@
 #include <unistd.h>
 
 search_function plain_gcc, unrolled_gcc, plain_clang, unrolled_clang;
+evaluate_function evaluate_gcc, evaluate_clang;
 
-static search_function *const engines[ENGINES] = { /* NULL: not there */
-    [PLAIN] = plain_gcc, [UNROLLED] = unrolled_gcc,
+static const struct engine { search_function *search; evaluate_function *evaluate; } engines[ENGINES] = {
+    [PLAIN] = {plain_gcc, evaluate_gcc}, [UNROLLED] = {unrolled_gcc, NULL}, /* NULL: not there */
 #ifdef HAVE_CLANG
-    [PLAIN_CLANG] = plain_clang, [UNROLLED_CLANG] = unrolled_clang,
+    [PLAIN_CLANG] = {plain_clang, evaluate_clang}, [UNROLLED_CLANG] = {unrolled_clang, NULL},
 #endif
-    [LIBRARY] = vayudrit_search,
+    [LIBRARY] = {vayudrit_search, vayudrit_evaluate},
 };
 /* A round: the library directly after its yardstick. */
 static const unsigned turns[ENGINES] = {PLAIN, LIBRARY, UNROLLED, PLAIN_CLANG, UNROLLED_CLANG};
@@ -40,12 +41,14 @@ enum { BASE = 3, DEGREE = 2, MOST_STARTS = 1000, SHORT_LIST = 4096 };
 
 enum mode { TINY = 1, QUICK = 2, USUAL = 4, LONG = 8 };
 
+#define EVALUATE 0     /* the budget of a row of evaluations */
 #define ALL UINT64_MAX /* no limit: of the points, or of the list but for the room for zeros */
 
-/* One job for every engine, done when the last call says "ended". Without starts: one record from
- * place 0, called with this budget and list over and over. With starts: that many records, each
- * called once; the last of them stands before the walk's last place, the others anywhere else but
- * at place 0. */
+/* One job for every engine. A walk or calls are done when the last call says "ended". Without
+ * starts: one record from place 0, called with this budget and list over and over. With starts: that
+ * many records, each called once; the last of them stands before the walk's last place, the others
+ * anywhere else but at place 0. Evaluations are at so many points ("starts"), of whose unknowns so
+ * many ("list") are not 0. */
 static const struct row {
     const char *name;
     unsigned n, m;
@@ -58,6 +61,7 @@ static const struct row {
     {"list of one", 7, 3, "many zeros", ALL, 1, 0, 2, TINY},
     {"budget of 100", 7, 7, "few zeros", 100, SHORT_LIST, 0, 2, TINY},
     {"one point a call", 20, 20, "few zeros", 1, SHORT_LIST, 10, 2, TINY},
+    {"evaluation", 20, 64, "13 unknowns not 0", EVALUATE, 13, 10, 2, TINY},
 
     {"whole walk", 12, 12, "few zeros", ALL, SHORT_LIST, 0, 15, QUICK},
     {"whole walk", 12, 2, "many zeros", ALL, ALL, 0, 15, QUICK},
@@ -66,6 +70,7 @@ static const struct row {
     {"budget of 1000", 12, 12, "few zeros", 1000, SHORT_LIST, 0, 15, QUICK},
     {"budget of 1", 8, 8, "few zeros", 1, SHORT_LIST, 0, 15, QUICK},
     {"one point a call", 20, 20, "few zeros", 1, SHORT_LIST, 200, 15, QUICK},
+    {"evaluation", 20, 64, "13 unknowns not 0", EVALUATE, 13, 200, 15, QUICK},
 
     {"whole walk", 14, 14, "few zeros", ALL, SHORT_LIST, 0, 40, USUAL | LONG},
     {"whole walk", 15, 15, "few zeros", ALL, SHORT_LIST, 0, 30, USUAL | LONG},
@@ -82,7 +87,15 @@ static const struct row {
     {"budget of 1000", 14, 14, "few zeros", 1000, SHORT_LIST, 0, 30, USUAL | LONG},
     {"budget of 1", 10, 10, "few zeros", 1, SHORT_LIST, 0, 20, USUAL | LONG},
     {"one point a call", 20, 20, "few zeros", 1, SHORT_LIST, 1000, 30, USUAL | LONG},
+    {"evaluation", 20, 64, "20 unknowns not 0", EVALUATE, 20, 1000, 50, USUAL | LONG},
+    {"evaluation", 20, 64, "13 unknowns not 0", EVALUATE, 13, 1000, 50, USUAL | LONG},
+    {"evaluation", 20, 64, "5 unknowns not 0", EVALUATE, 5, 1000, 50, USUAL | LONG},
+    {"evaluation", 20, 64, "0 unknowns not 0", EVALUATE, 0, 1000, 50, USUAL | LONG},
 };
+
+static int job_of(const struct row *row) {
+    return row->budget == EVALUATE ? EVALUATIONS : row->starts > 0 ? CALLS : WALKS;
+}
 
 /* ---- the system of a row, and what is known of its runs before any ---- */
 
@@ -92,7 +105,8 @@ struct task {
     uint64_t end;               /* 3^n */
     uint64_t points, additions; /* of a run that does all */
     uint64_t capacity;          /* entries of room for zeros, twice as many as may be expected */
-    uint64_t table[2 * MOST_MONOMIALS];
+    uint64_t table[2 * MOST_MONOMIALS], coefficients[2 * MOST_MONOMIALS];
+    uint64_t at[MOST_STARTS]; /* the points of evaluations */
     uint64_t before[MOST_STARTS][RECORD_WORDS], after[MOST_STARTS][RECORD_WORDS];
     uint64_t found, *list;      /* the plain walk's, later */
 };
@@ -108,6 +122,7 @@ static void seed_row(const struct row *row, uint64_t seed) {
     for (const char *c = row->name; *c != '\0'; c++)
         random_state = random_word() ^ (unsigned char)*c;
     random_state = random_word() ^ (row->n << 8 | row->m);
+    if (job_of(row) == EVALUATIONS) random_state += row->list;
 }
 
 static void open_at(const struct task *t, uint64_t place, uint64_t *record) {
@@ -118,12 +133,11 @@ static void open_at(const struct task *t, uint64_t place, uint64_t *record) {
 }
 
 /* The system at a point, high then low, by the reference. */
-static void value_at(const struct task *t, uint64_t point, uint64_t value[2]) {
-    uint64_t coefficients[2 * MOST_MONOMIALS];
+static void value_at(struct task *t, uint64_t point, uint64_t value[2]) {
     uint64_t n = t->row->n, m = t->row->m;
     size_t size = 2 * monomials(n);
-    if (reference_coefficients(n, m, t->table, size, coefficients, size) != 0
-        || reference_evaluate(n, m, coefficients, size, point, value, 2) != 0)
+    if (reference_coefficients(n, m, t->table, size, t->coefficients, size) != 0
+        || reference_evaluate(n, m, t->coefficients, size, point, value, 2) != 0)
         stop_bench("the reference does not evaluate the system");
 }
 
@@ -144,14 +158,40 @@ static void draw_table(struct task *t) {
     t->table[1] = value[0] ^ value[1]; /* the negative */
 }
 
-static void set_task(struct task *t, const struct row *row) {
-    t->row = row;
-    t->end = power_of_three(row->n);
+/* A point with so many unknowns that are not 0. */
+static uint64_t draw_point(unsigned n, uint64_t not_zero) {
+    uint64_t point = 0;
+    for (unsigned left = n; left > 0; left--) {
+        uint64_t taken = random_word() % left < not_zero;
+        point = 3 * point + taken * (1 + random_word() % 2);
+        not_zero -= taken;
+    }
+    return point;
+}
+
+/* Evaluations: the values by the reference are what the runs are held against. */
+static void set_evaluations(struct task *t) {
+    uint64_t value[2];
+    t->points = t->starts = t->row->starts;
+    t->additions = t->found = 0;
+    t->capacity = 2 * t->points;
+    t->list = malloc(8 * t->capacity);
+    if (t->list == NULL) stop_bench("no memory");
+    for (unsigned s = 0; s < t->starts; s++) {
+        t->at[s] = draw_point(t->row->n, t->row->list);
+        value_at(t, t->at[s], value);
+        memcpy(t->list + 2 * s, value, sizeof value);
+        t->found += value[0] == 0;
+    }
+}
+
+static void set_walk(struct task *t) {
+    const struct row *row = t->row;
     t->starts = row->starts > 0 ? row->starts : 1;
     t->points = row->starts > 0 ? row->starts : t->end;
     t->additions = row->starts > 0 ? 0 : 2 * (t->end - 1) - row->n;
     t->capacity = SHORT_LIST + (row->n > row->m ? 2 * power_of_three(row->n - row->m) : 0);
-    draw_table(t);
+    t->list = NULL;
     open_at(t, 0, t->before[0]);
     open_at(t, t->end, t->after[0]);
     for (unsigned s = 0; s < row->starts; s++) {
@@ -160,6 +200,14 @@ static void set_task(struct task *t, const struct row *row) {
         open_at(t, place + 1, t->after[s]);
         t->additions += cost_of(place);
     }
+}
+
+static void set_task(struct task *t, const struct row *row) {
+    t->row = row;
+    t->end = power_of_three(row->n);
+    draw_table(t);
+    if (job_of(row) == EVALUATIONS) set_evaluations(t);
+    else set_walk(t);
 }
 
 /* ---- one run, in a child ---- */
@@ -204,6 +252,18 @@ static int goes_on(const struct task *t, const struct report *r, int stop, uint6
     return (stop == FULL && found == row->list) || (stop == SPENT && points == row->budget);
 }
 
+/* Evaluates at all points; the values go where a walk has its list. */
+static int evaluate(const struct task *t, evaluate_function *evaluate, struct report *r) {
+    for (unsigned s = 0; s < t->starts; s++) {
+        uint64_t *value = r->list + 2 * s;
+        r->refusal = evaluate(t->row->n, t->row->m, t->coefficients, 2 * monomials(t->row->n), t->at[s], value, 2);
+        if (r->refusal != 0) return RUN_REFUSED;
+        r->points++;
+        r->found += value[0] == 0;
+    }
+    return RUN_ENDED;
+}
+
 /* A whole run; the word for how it ended. */
 static int walk(const struct task *t, search_function *search, struct report *r) {
     int status = ENDED;
@@ -220,12 +280,16 @@ static int walk(const struct task *t, search_function *search, struct report *r)
 }
 
 /* One point on copies, so that the engine's code is in memory before the clock starts. */
-static void warm_up(const struct task *t, search_function *search) {
+static void warm_up(const struct task *t, const struct engine *engine) {
     const struct row *row = t->row;
-    uint64_t record[RECORD_WORDS], list[1], answer[ANSWER_WORDS];
+    uint64_t record[RECORD_WORDS], list[2], answer[ANSWER_WORDS];
+    if (job_of(row) == EVALUATIONS) {
+        engine->evaluate(row->n, row->m, t->coefficients, 2 * monomials(row->n), t->at[0], list, 2);
+        return;
+    }
     memcpy(record, t->before[0], sizeof record);
-    search(row->n, row->m, (const uint8_t *)t->table, 16 * monomials(row->n), (uint8_t *)record,
-           sizeof record, 1, (uint8_t *)list, sizeof list, (uint8_t *)answer, sizeof answer);
+    engine->search(row->n, row->m, (const uint8_t *)t->table, 16 * monomials(row->n), (uint8_t *)record,
+                   sizeof record, 1, (uint8_t *)list, sizeof list, (uint8_t *)answer, sizeof answer);
 }
 
 static double now(void) {
@@ -234,7 +298,7 @@ static double now(void) {
     return 1e9 * (double)t.tv_sec + (double)t.tv_nsec;
 }
 
-static void run(const struct task *t, search_function *search, struct report *r, unsigned limit) {
+static void run(const struct task *t, const struct engine *engine, struct report *r, unsigned limit) {
     pid_t child;
     int end;
     memset(r, 0, sizeof *r);
@@ -244,12 +308,12 @@ static void run(const struct task *t, search_function *search, struct report *r,
         double start;
         int status;
         alarm(limit);
-        memcpy(r->record, t->before, t->starts * sizeof *r->record);
+        if (job_of(t->row) != EVALUATIONS) memcpy(r->record, t->before, t->starts * sizeof *r->record);
         for (uint64_t k = 0; k < t->capacity; k++) /* also brings the pages in before the clock */
             r->list[k] = untouched;
-        warm_up(t, search);
+        warm_up(t, engine);
         start = now();
-        status = walk(t, search, r);
+        status = job_of(t->row) == EVALUATIONS ? evaluate(t, engine->evaluate, r) : walk(t, engine->search, r);
         r->ns = now() - start;
         r->status = status;
         _exit(0);
@@ -270,6 +334,9 @@ static int counts_agree(const struct task *t, const struct report *r) {
 }
 
 static int agrees(const struct task *t, const struct report *r) {
+    if (job_of(t->row) == EVALUATIONS)
+        return r->points == t->points && r->additions == 0 && r->found == t->found
+               && memcmp(r->list, t->list, 8 * t->capacity) == 0;
     return counts_agree(t, r) && r->found == t->found
            && memcmp(r->list, t->list, r->found * sizeof *t->list) == 0;
 }
@@ -297,10 +364,10 @@ static void take_yardstick(struct task *t, const struct report *r) {
 /* The runs of an engine over its rounds: their times, or the first that went wrong. */
 struct result { int status; uint64_t refusal, points, additions, found; double ns[MOST_ROUNDS]; };
 
-static void run_round(const struct task *t, search_function *search, struct report *r,
+static void run_round(const struct task *t, const struct engine *engine, struct report *r,
                       struct result *result, unsigned round, unsigned limit) {
     if (result->status != RUN_ENDED) return;
-    run(t, search, r, limit);
+    run(t, engine, r, limit);
     if (r->status == RUN_ENDED && !agrees(t, r)) r->status = RUN_MISCOUNTED;
     result->status = r->status;
     result->refusal = r->refusal;
@@ -323,13 +390,17 @@ static void print_result(const char *engine, const struct result *result, unsign
     putchar('\n');
 }
 
+static int has_job(const struct engine *engine, const struct row *row) {
+    return job_of(row) == EVALUATIONS ? engine->evaluate != NULL : engine->search != NULL;
+}
+
 static void print_row(const struct task *t, const struct result *results, unsigned rounds) {
     const struct row *row = t->row;
     printf("case\t%s\t%s\t%d\t%d\t%u\t%u\t%s\t%" PRIu64 "\t%u\n", row->name,
-           job_names[row->starts > 0 ? CALLS : WALKS], BASE, DEGREE, row->n, row->m, row->detail,
+           job_names[job_of(row)], BASE, DEGREE, row->n, row->m, row->detail,
            t->points, rounds);
     for (unsigned k = 0; k < ENGINES; k++)
-        if (engines[k] != NULL) print_result(engine_names[k], &results[k], rounds);
+        if (has_job(&engines[k], row)) print_result(engine_names[k], &results[k], rounds);
     if (fflush(stdout) != 0) stop_bench("the results cannot be written");
 }
 
@@ -347,11 +418,14 @@ static void run_row(const struct row *row, const struct options *o) {
     size = sizeof *r + 8 * t.capacity;
     r = mmap(NULL, size, PROT_READ | PROT_WRITE, MAP_SHARED | MAP_ANONYMOUS, -1, 0);
     if (r == MAP_FAILED) stop_bench("no memory");
-    run(&t, engines[PLAIN], r, o->limit);
-    take_yardstick(&t, r);
+    if (job_of(row) != EVALUATIONS) {
+        run(&t, &engines[PLAIN], r, o->limit);
+        take_yardstick(&t, r);
+    }
     for (unsigned k = 0; k < rounds * ENGINES; k++) {
         unsigned engine = turns[k % ENGINES];
-        if (engines[engine] != NULL) run_round(&t, engines[engine], r, &results[engine], k / ENGINES, o->limit);
+        if (has_job(&engines[engine], row))
+            run_round(&t, &engines[engine], r, &results[engine], k / ENGINES, o->limit);
     }
     print_row(&t, results, rounds);
     free(t.list);
