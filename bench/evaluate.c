@@ -1,12 +1,13 @@
-/* The plain C evaluation at a point: each coefficient times its unknowns, added up. Checks nothing. */
+/* The plain C evaluation at a point: every coefficient times its unknowns, added up. It checks
+ * nothing, and passes over nothing. */
 #include "walks.h"
 
 evaluate_function EVALUATE; /* the function's name, given when compiling */
 
+/* Without branches, so that the time is the same at every point. */
 static vector plus_times(vector sum, const uint64_t *entry, unsigned factor) {
-    vector c = {entry[0], entry[1]};
-    if (factor == 2) c.low ^= c.high; /* the negative */
-    return factor == 0 ? sum : plus(sum, c);
+    uint64_t kept = -(uint64_t)(factor != 0), turned = -(uint64_t)(factor == 2);
+    return plus(sum, (vector){entry[0] & kept, (entry[1] ^ (entry[0] & turned)) & kept});
 }
 
 uint64_t EVALUATE(uint64_t n, uint64_t m, const uint64_t *coefficients, size_t coefficients_len, uint64_t point,
