@@ -4,8 +4,8 @@
  *
  * Compared is the library's time against the plain C walk of the same run. A release is marked if
  * its file cannot be read or does not say where it comes from, if one of its runs has no number
- * (it did not end, was refused, miscounted, breaks C-22's rule), or if it lacks a case that another
- * has. What is marked is told before anything else, stands last, and is never best, never first and
+ * (it did not end, was refused, miscounted, breaks C-22's rule), if it was measured against another
+ * plain walk, or if it lacks a case that another has. What is marked is told before anything else, stands last, and is never best, never first and
  * never in the summary. The order of the files given does not matter: releases stand in the order
  * of their commits. Exit is 0 if no release is marked, 2 if one is, and 1 if nothing can be
  * compared; then nothing is written. */
@@ -122,6 +122,19 @@ static void mark_release(unsigned k) {
     }
 }
 
+/* A ratio means something beside another only if both are to the same plain walk: the newest's. */
+static void mark_yardsticks(void) {
+    const struct release *newest = NULL;
+    for (unsigned k = 0; k < release_count; k++)
+        if (releases[k]->results.fault[0] == '\0') newest = releases[k];
+    for (unsigned k = 0; newest != NULL && k < release_count; k++) {
+        struct release *r = releases[k];
+        if (r->results.fault[0] != '\0' || strcmp(r->results.fact[YARDSTICK], newest->results.fact[YARDSTICK]) == 0) continue;
+        mark(r, "measured against another plain walk than release %s: measure it again", name_of(newest));
+        r->faulty = 1;
+    }
+}
+
 /* With the same seed a case is the same system: both have the same counts, or one is wrong and
  * nothing says which. */
 static void mark_disagreement(unsigned a, unsigned b) {
@@ -189,6 +202,7 @@ static void read_all(int count, char **paths) {
     find_cases();
     for (unsigned k = 0; k < release_count; k++)
         mark_release(k);
+    mark_yardsticks();
     for (unsigned a = 0; a < release_count; a++)
         for (unsigned b = a + 1; b < release_count; b++)
             mark_disagreement(a, b);

@@ -15,8 +15,8 @@ enum { MOST_LINE = 4000, MOST_FIELDS = MOST_ROUNDS + 1, CASE_FIELDS = 10 };
 static const double least_ns = 0.05; /* no processor examines twenty points in a nanosecond */
 static const double most_ns = 1e12;
 
-static const char *const fact_names[FACTS] = {RESULTS_TITLE, "release", "commit", "committed", "tree", "bench", "kit",
-                                              "date", "processor", "gcc", "clang", "mode", "seed", "limit"};
+static const char *const fact_names[FACTS] = {RESULTS_TITLE, "release", "commit", "committed", "tree", "bench",
+                                              "yardstick", "kit", "date", "processor", "gcc", "clang", "mode", "seed", "limit"};
 
 /* ---- reading ---- */
 
@@ -96,7 +96,9 @@ static int is_moment(const char *text) {
     return 1;
 }
 
-static int is_commit(const char *text) { return strlen(text) == 40 && text[strspn(text, "0123456789abcdef")] == '\0'; }
+static int is_sum(const char *text, size_t length) {
+    return strlen(text) == length && text[strspn(text, "0123456789abcdef")] == '\0';
+}
 
 static int is_one_of(const char *text, const char *a, const char *b, const char *c) {
     return strcmp(text, a) == 0 || strcmp(text, b) == 0 || strcmp(text, c) == 0;
@@ -106,8 +108,9 @@ static void check_fact(int k, const char *text) {
     int right = 1;
     if (k == VERSION && strcmp(text, RESULTS_VERSION) != 0) bad("version %.20s; version %s is read here", text, RESULTS_VERSION);
     if (k == RELEASE) right = strlen(text) <= MOST_NAME;
-    if (k == COMMIT || k == BENCH) right = is_commit(text) || strcmp(text, "unknown") == 0;
+    if (k == COMMIT || k == BENCH) right = is_sum(text, 40) || strcmp(text, "unknown") == 0;
     if (k == COMMITTED) right = is_moment(text) || strcmp(text, "unknown") == 0;
+    if (k == YARDSTICK) right = is_sum(text, 12);
     if (k == TREE) right = is_one_of(text, "clean", "changed", "unknown");
     if (k == DATE) right = is_moment(text);
     if (k == SEED) whole(text, 0, UINT64_MAX - 1);
