@@ -15,8 +15,9 @@ enum { MOST_LINE = 4000, MOST_FIELDS = MOST_ROUNDS + 1, CASE_FIELDS = 10 };
 static const double least_ns = 0.05; /* no processor examines twenty points in a nanosecond */
 static const double most_ns = 1e12;
 
-static const char *const fact_names[FACTS] = {RESULTS_TITLE, "release", "commit", "committed", "tree", "bench",
-                                              "yardstick", "kit", "date", "processor", "gcc", "clang", "mode", "seed", "limit"};
+static const char *const fact_names[FACTS] = {
+    RESULTS_TITLE, "release", "commit", "committed", "tree", "bench", "yardstick", "kit", "date", "processor",
+    "gcc", "clang", "mode", "seed", "limit"};
 
 /* ---- reading ---- */
 
@@ -106,7 +107,8 @@ static int is_one_of(const char *text, const char *a, const char *b, const char 
 
 static void check_fact(int k, const char *text) {
     int right = 1;
-    if (k == VERSION && strcmp(text, RESULTS_VERSION) != 0) bad("version %.20s; version %s is read here", text, RESULTS_VERSION);
+    if (k == VERSION && strcmp(text, RESULTS_VERSION) != 0)
+        bad("version %.20s; version %s is read here", text, RESULTS_VERSION);
     if (k == RELEASE) right = strlen(text) <= MOST_NAME;
     if (k == COMMIT || k == BENCH) right = is_sum(text, 40) || strcmp(text, "unknown") == 0;
     if (k == COMMITTED) right = is_moment(text) || strcmp(text, "unknown") == 0;

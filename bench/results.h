@@ -10,7 +10,10 @@
 enum { MOST_CASES = 100, MOST_TEXT = 120, MOST_NAME = 24, MOST_WORDS = 200 };
 
 /* What a file says of itself, one fact a line, in this order. */
-enum { VERSION, RELEASE, COMMIT, COMMITTED, TREE, BENCH, YARDSTICK, KIT, DATE, PROCESSOR, GCC, CLANG, MODE, SEED, LIMIT, FACTS };
+enum {
+    VERSION, RELEASE, COMMIT, COMMITTED, TREE, BENCH, YARDSTICK, KIT, DATE, PROCESSOR,
+    GCC, CLANG, MODE, SEED, LIMIT, FACTS
+};
 
 struct run {
     int present, status, has_number;
