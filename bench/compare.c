@@ -87,7 +87,7 @@ static void write_table(FILE *f) {
 
 /* ---- picture ---- */
 
-enum { WIDE = 1200, EDGE = 30, COLUMNS = 2, PANEL = 560, PANEL_GAP = 20, NAME_END = 34, BARS = 200, BAR = 26, LINE = 36,
+enum { WIDE = 1200, EDGE = 30, COLUMNS = 2, PANEL = 560, PANEL_GAP = 20, NAME_END = 34, BARS = 180, BAR = 26, LINE = 36,
        PANEL_HEAD = 64, PANEL_FOOT = 26, TEXT = 30 };
 
 static double panel_height(void) { return PANEL_HEAD + LINE * release_count + PANEL_FOOT; }

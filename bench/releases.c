@@ -250,8 +250,10 @@ static void write_summary(char text[MOST_MARK], unsigned before) {
     for (int k = 0; k < JUDGEMENTS; k++)
         if (count[k] > 0)
             length += snprintf(text + length, MOST_MARK - (size_t)length, " %s in %u,", judgements[k], count[k]);
-    snprintf(text + length - 1, MOST_MARK - (size_t)length + 1, "; %.2f of its time on (geometric) average.",
-             exp(log_now - log_before));
+    text[--length] = '.'; /* the last comma */
+    if (count[FASTER] + count[SLOWER] > 0)
+        snprintf(text + length, MOST_MARK - (size_t)length, "; %.2f of its time on (geometric) average.",
+                 exp(log_now - log_before));
 }
 
 unsigned summarise(char lines[2][MOST_MARK]) {
