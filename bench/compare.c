@@ -80,8 +80,9 @@ static void write_table(FILE *f) {
         write_case(f, row);
     fprintf(f, "To plain: the library's least time by that of the plain C walk (divisions, gcc -O3) of the same\n"
             "run; the middle, lowest and highest of %d groups of rounds. Below 1 is faster than plain. Releases\n"
-            "whose lowest to highest overlap, or that differ by less than %.0f in 100, have no difference.\n"
-            "Nanoseconds a point (median) are told, not compared: they are the machine's.\n", GROUPS,
+            "have no difference if their ranges from lowest to highest, made half as wide again on either side,\n"
+            "overlap, or if they differ by less than %.0f in 100. Nanoseconds a point (median) are told, not\n"
+            "compared: they are the machine's.\n", GROUPS,
             100 * least_difference);
 }
 

@@ -207,10 +207,17 @@ struct ratio ratio_at(const struct row *row, unsigned k) {
 enum { FASTER, SLOWER, NO_DIFFERENCE, TOO_FEW_ROUNDS, JUDGEMENTS };
 static const char *const judgements[JUDGEMENTS] = {"faster", "slower", "no difference", "too few rounds"};
 
+/* Half as wide again on either side: groups of one run lie closer together than runs do. */
+static struct ratio widened(struct ratio r) {
+    double half = (r.high - r.low) / 2;
+    return (struct ratio){r.low - half, r.middle, r.high + half, r.groups};
+}
+
 static int judge_ratios(struct ratio now, struct ratio before) {
-    int overlap = now.low <= before.high && before.low <= now.high;
+    struct ratio a = widened(now), b = widened(before);
     if (now.groups < LEAST_GROUPS || before.groups < LEAST_GROUPS) return TOO_FEW_ROUNDS;
-    if (overlap || fabs(now.middle / before.middle - 1) < least_difference) return NO_DIFFERENCE;
+    if ((a.low <= b.high && b.low <= a.high) || fabs(now.middle / before.middle - 1) < least_difference)
+        return NO_DIFFERENCE;
     return now.middle < before.middle ? FASTER : SLOWER;
 }
 
