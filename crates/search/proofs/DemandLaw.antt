@@ -1,15 +1,15 @@
 -- Demand 3 of the search: the laws of runs of calls, at the walk of a table.
-use mathlib.Core.Path.{_≡_, refl, sym, ap, ap₂, _∙_}
+use mathlib.Core.Path.{_≡_, refl, sym, ap, _∙_}
 use mathlib.Core.Bool.{true}
 use mathlib.Core.Logic.{_↔_}
 use mathlib.Core.List.{List, map}
-use Prim.Native.Nat.{ℕ, zero, suc, _-_, _*_, _%_, _^_, _≤_, _<_}
+use Prim.Native.Nat.{ℕ, zero, _-_, _*_, _%_, _^_, _≤_, _<_}
 use native.Mathlib.Nat.{zero-add, one-le-pow}
 use native.Mathlib.Omega.{arith}
 use Rattle.refusals.specs.declared.Verdict.the-variants as verdict
 use Rattle.gray.specs.Numbers.{digit, pointDigit, pointOf}
 use Rattle.gray.proofs.MapLaw.{point-lt, point-digit, point-same, point-onto}
-use Rattle.polynomials.specs.Poly.{Poly, valueOf}
+use Rattle.polynomials.specs.Poly.{valueOf}
 use Rattle.tables.specs.Answers.{checkedOf}
 use Rattle.walks.specs.Calls.{Trail, costIn}
 use Rattle.walks.specs.Runs.{Request, Sums, SaysEnded, WholeRun, askedIn}
@@ -27,7 +27,7 @@ use Rattle.search.proofs.PlaceLaw.{two}
 use Rattle.search.proofs.SystemLaw.{value-at}
 use Rattle.search.proofs.SessionLaw.{serves, willing}
 
-trans-iff : {A B C : Type 0} → A ↔ B → B ↔ C → A ↔ C
+pub trans-iff : {A B C : Type 0} → A ↔ B → B ↔ C → A ↔ C
 trans-iff f g = (λ a. g .0 (f .0 a), λ c. f .1 (g .1 c))
 
 module _ (n m : ℕ) (t : List ℕ) where

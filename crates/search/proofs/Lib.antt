@@ -9,3 +9,5 @@ pub mod DemandLaw
 pub mod Starred
 pub mod OpenLaw
 pub mod RanLaw
+pub mod SignedLaw
+pub mod RowsLaw

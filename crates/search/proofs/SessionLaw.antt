@@ -1,10 +1,10 @@
 -- The search of a checked table serves the walk of its system: from the record at a place a call is refused for its budget or its list
 -- and changes nothing, or it is a call on the walk.
-use mathlib.Core.Path.{_≡_, refl, sym, ap, _∙_}
+use mathlib.Core.Path.{_≡_, refl, ap, _∙_}
 use mathlib.Core.Bool.{Bool, true, false}
 use mathlib.Core.Logic.{_⊎_, inl, inr}
 use mathlib.Core.List.{List}
-use Prim.Native.Nat.{ℕ, zero, suc, _+_, _^_, _≤_, _<_}
+use Prim.Native.Nat.{ℕ, _+_, _^_, _≤_, _<_}
 use native.Mathlib.Omega.{arith}
 use lib.Dec.{eqb}
 use lib.ListN.{length}
@@ -20,7 +20,7 @@ use Rattle.walks.specs.declared.Report.{Report}
 use Rattle.search.specs.declared.Record.{Record}
 use Rattle.search.specs.declared.Answer.the-variants.{Ran}
 use Rattle.search.specs.Opened.{openedAt}
-use Rattle.search.specs.Search.{trailOf, searchVerdict, answerFrom}
+use Rattle.search.specs.Search.{trailOf, answerFrom}
 use Rattle.search.specs.Session.{toldOf, callOf}
 use Rattle.search.proofs.VerdictLaw.{asked, verdict-opened}
 

@@ -3,3 +3,4 @@ pub mod Parts
 pub mod Search
 pub mod Session
 pub mod Demand
+pub mod Rows
