@@ -13,8 +13,7 @@ use Rattle.refusals.specs.declared.Refusal.the-variants as refusal
 use Rattle.refusals.specs.declared.Verdict.{Verdict}
 use Rattle.refusals.specs.declared.Verdict.the-variants as verdict
 use Rattle.refusals.specs.Refusal.{numberOf, refuse, after}
-use Rattle.refusals.proofs.RefusalLaw.{refuse-none, sized-next}
-use Rattle.refusals.specs.Limits.{Within}
+use Rattle.refusals.proofs.RefusalLaw.{refuse-none, sized-next, Within}
 use Rattle.tables.specs.Monomials.{countOf}
 use Rattle.tables.specs.Words.{Table, legalFront, wordsOf, differencesOf}
 use Rattle.tables.specs.Answers.{long, paired, checkedOf, copyVerdict, differencesAfter}
@@ -27,11 +26,11 @@ use Rattle.reader.specs.declared.ReadAnswer.the-variants as answer
 use Rattle.reader.specs.Equations.{systemOf}
 use Rattle.reader.specs.Answers.{answerOf, wordsAfter}
 use Rattle.walks.specs.Calls.{zerosIn, costIn}
-use Rattle.search.specs.declared.Opened.{Opened}
-use Rattle.search.specs.Opened.{openedAt, noRecord, openVerdict, openOf}
+use Rattle.opening.specs.declared.Opened.{Opened}
+use Rattle.opening.specs.Opened.{openedAt, noRecord, openVerdict, openOf}
 use Rattle.search.specs.Search.{trailOf}
-use Rattle.search.proofs.VerdictLaw.{checked-next}
-use Rattle.search.proofs.DemandLaw.{end-is, cost-all}
+use Rattle.opening.proofs.VerdictLaw.{checked-next}
+use Rattle.demand.proofs.DemandLaw.{end-is, cost-all}
 use Rattle.layouts.specs.declared.session.Session.{Session}
 use Rattle.texts.specs.Text.{refusalLine}
 use Rattle.listing.specs.Listing.{layoutLines, headLine, totalsLine}

@@ -21,9 +21,9 @@ use Rattle.reader.specs.Equations.{systemOf}
 use Rattle.reader.proofs.ColourLaw.{colours}
 use Rattle.walks.specs.Calls.{listed, zerosIn}
 use Rattle.walk.proofs.CallLaw.{zeros-all, all-zeros}
-use Rattle.search.specs.Opened.{systemOf as behind}
+use Rattle.opening.specs.Opened.{systemOf as behind}
 use Rattle.search.specs.Search.{trailOf}
-use Rattle.search.proofs.SystemLaw.{value-agree}
+use Rattle.opening.proofs.SystemLaw.{value-agree}
 use Rattle.layouts.specs.Output.{differAt, layoutsIn}
 
 two : 1 < 3

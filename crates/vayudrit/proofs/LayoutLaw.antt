@@ -7,7 +7,7 @@ use native.Mathlib.Omega.{arith}
 use lib.ListN.{length, getD, set, take, drop, length-set, length-drop}
 use lib.Seq.{take-suc, take-suc-set, drop-cons, take-all, drop-length}
 use Rattle.trits.specs.declared.Vector.{Vector}
-use Rattle.search.specs.declared.Record.{Record}
+use Rattle.opening.specs.declared.Record.{Record}
 use Rattle.vayudrit.specs.Layout.{vectorsOf, wordsFrom, recordOf, recordWords}
 
 pub vectors-two : (h l : ℕ) (t : List ℕ) → vectorsOf (h ∷ l ∷ t) ≡ record { high = h; low = l } ∷ vectorsOf t

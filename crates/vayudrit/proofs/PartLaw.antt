@@ -23,13 +23,14 @@ use Rattle.tables.specs.Answers.{long, paired, checkedOf}
 use Rattle.walks.specs.declared.Report.{Report}
 use Rattle.walks.specs.Calls.{Trail, zerosIn, costIn, pointsIn, reportOf, listAfter}
 use Rattle.walks.proofs.CallLaw.{points-none, points-le, points-one, points-end, zeros-room, cost-most, at-end, after-length, after-front}
-use Rattle.search.specs.declared.Record.{Record}
+use Rattle.opening.specs.declared.Record.{Record}
 use Rattle.search.specs.declared.Answer.{Answer}
 use Rattle.search.specs.declared.Answer.the-variants.{Ran, Refused}
 use Rattle.search.specs.declared.Outcome.{Outcome}
-use Rattle.search.specs.Opened.{openedAt}
+use Rattle.opening.specs.Opened.{openedAt}
 use Rattle.search.specs.Search.{trailOf, sameRecord, fits, ranOf, outcomeFrom, outcomeOf, listOf}
-use Rattle.search.proofs.VerdictLaw.{checked-next, fits-opened}
+use Rattle.opening.proofs.VerdictLaw.{checked-next}
+use Rattle.search.proofs.VerdictLaw.{fits-opened}
 use Rattle.vayudrit.specs.Chunks.{roomVerdict, callOf, foundOf, didOf, hasEnded, stopAfter, told}
 use Rattle.vayudrit.proofs.ChunkLaw.{moreReport, eqb-iff, zeros-cut, place-cut, report-cut, points-over, zeros-over, report-over}
 

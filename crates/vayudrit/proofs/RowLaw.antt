@@ -12,7 +12,7 @@ use Rattle.walks.specs.declared.Report.{Report}
 use Rattle.walks.specs.declared.Stop.{Stop}
 use Rattle.codec.specs.Codec.{bytesFrom, pasted}
 use Rattle.codec.proofs.CodecLaw.{paste-paste, from-append, length-from, length-pasted}
-use Rattle.search.specs.declared.Record.{Record}
+use Rattle.opening.specs.declared.Record.{Record}
 use Rattle.search.specs.declared.Answer.{Answer}
 use Rattle.search.specs.declared.Answer.the-variants.{Ran, Refused}
 use Rattle.search.specs.declared.Outcome.{Outcome}

@@ -5,9 +5,9 @@ use mir.Val.{Val}
 use lib.ListN.{length, length-map}
 use denote.Laws.{Is}
 use denote.Struct.Laws as LL
-use Rattle.search.specs.declared.Record.{Record}
-use Rattle.search.proofs.Record as T
-use Rattle.search.proofs.Record.Laws as T′
+use Rattle.opening.specs.declared.Record.{Record}
+use Rattle.opening.proofs.Record as T
+use Rattle.opening.proofs.Record.Laws as T′
 
 pub slots-long : (r : Record) (vs : List Val) → Is T.the-row r vs → length (r .slots) ≡ 20
 slots-long r vs is = sym (length-map (r .slots) _) ∙ LL.owed T.the-type T′.the-laws r vs is .1 .1 .1 .1 .0 .1 .0 .1

@@ -12,8 +12,7 @@ use Rattle.refusals.specs.declared.Refusal.the-variants.{Size, Length}
 use Rattle.refusals.specs.declared.Verdict.{Verdict}
 use Rattle.refusals.specs.declared.Verdict.the-variants.{Done, Refused}
 use Rattle.refusals.specs.Refusal.{codeOf, refuse, sized, after}
-use Rattle.refusals.proofs.RefusalLaw.{number-pos, done-test, done-next, refuse-none, sized-within, sized-next, sized-done}
-use Rattle.refusals.specs.Limits.{Within}
+use Rattle.refusals.proofs.RefusalLaw.{number-pos, done-test, done-next, refuse-none, sized-within, sized-next, sized-done, Within}
 use Rattle.tables.specs.Monomials.{countOf}
 use Rattle.walks.specs.declared.Report.{Report}
 use Rattle.walks.specs.Calls.{reportOf, pointsIn, zerosIn}
@@ -21,12 +20,12 @@ use Rattle.walks.specs.Calls as calls
 use Rattle.walks.proofs.CallLaw.{after-front}
 use Rattle.codec.specs.Codec.{bytesFrom, pasted}
 use Rattle.codec.proofs.CodecLaw.{length-words, paste-none, from-nil}
-use Rattle.search.specs.declared.Record.{Record}
+use Rattle.opening.specs.declared.Record.{Record}
 use Rattle.search.specs.declared.Answer.the-variants as answer
 use Rattle.search.specs.declared.Outcome.{Outcome}
-use Rattle.search.specs.Opened.{openedAt}
+use Rattle.opening.specs.Opened.{openedAt}
 use Rattle.search.specs.Search.{trailOf, searchVerdict, answerFrom, listOf, answerNumber}
-use Rattle.search.specs.Session.{listedOf}
+use Rattle.demand.specs.Session.{listedOf}
 use Rattle.vayudrit.specs.Call.{wordsIn, recordIn, shaped, callVerdict, doneOf, recordBytes, answerBytes, recordAfter, listAfter, answerAfter}
 use Rattle.vayudrit.specs.Chunks.{callOf, foundOf}
 

@@ -9,12 +9,12 @@ use Rattle.refusals.specs.declared.Verdict.{Verdict}
 use Rattle.refusals.specs.Refusal.{refuse, sized, after}
 use Rattle.tables.specs.Monomials.{countOf}
 use Rattle.codec.specs.Codec.{wordsOf, bytesFrom, pasted}
-use Rattle.search.specs.declared.Record.{Record}
+use Rattle.opening.specs.declared.Record.{Record}
 use Rattle.search.specs.declared.Answer.{Answer}
 use Rattle.search.specs.declared.Answer.the-variants.{Ran, Refused}
 use Rattle.search.specs.declared.Outcome.{Outcome}
 use Rattle.search.specs.Search.{searchVerdict, outcomeOf, listOf}
-use Rattle.search.specs.Session.{listedOf}
+use Rattle.demand.specs.Session.{listedOf}
 use Rattle.vayudrit.specs.Layout.{recordOf, recordWords, answerWords}
 
 -- all the words of bytes

@@ -5,7 +5,7 @@ use lib.ListN.{getD, drop}
 use Rattle.trits.specs.declared.Vector.{Vector}
 use Rattle.walks.specs.declared.Report.{Report}
 use Rattle.walks.specs.Calls.{stopNumber}
-use Rattle.search.specs.declared.Record.{Record}
+use Rattle.opening.specs.declared.Record.{Record}
 
 -- vectors as words, high before low, and back
 unfoldable pub wordsFrom : List Vector → List ℕ

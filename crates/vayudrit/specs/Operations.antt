@@ -15,7 +15,7 @@ use Rattle.gray.specs.Answers.{convertVerdict}
 use Rattle.balanced.specs.Answers.{balancedVerdict}
 use Rattle.tables.specs.Words.{valuesAt}
 use Rattle.tables.specs.Answers.{evaluateVerdict}
-use Rattle.search.specs.Opened.{openedAt, openVerdict}
+use Rattle.opening.specs.Opened.{openedAt, openVerdict}
 use Rattle.vayudrit.specs.Layout.{recordWords}
 
 -- 1, then 2 of a result that has count entries and is to have wanted, then v

@@ -1,9 +1,9 @@
 // The search over a list of bytes of any length: one chunk of words after another. Each part goes on from the record of
 // the one before, so together they are one search; a part costs one more check of the record, some microseconds.
 use gray::Place;
+use opening::Record;
 use search::Answer;
 use search::Outcome;
-use search::Record;
 use walks::Report;
 use walks::Stop;
 ghost use mathlib.Core.Path.{_≡_};

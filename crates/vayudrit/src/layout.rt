@@ -1,6 +1,6 @@
 // Records and answers as words, and these as bytes.
 use gray::Place;
-use search::Record;
+use opening::Record;
 use trits::Vector;
 use walks::Report;
 use walks::Stop;

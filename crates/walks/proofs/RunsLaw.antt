@@ -1,21 +1,21 @@
 -- Runs of calls on any engine that serves a walk: each answer keeps its promise, and the promises add up, however the run is cut.
 use mathlib.Core.Path.{_≡_, refl, sym, ap, ap₂, subst, _∙_}
-use mathlib.Core.Logic.{_⊎_, inl, inr, ⊎-elim, by-cases, _↔_}
+use mathlib.Core.Logic.{_⊎_, ⊎-elim, by-cases, _↔_}
 use mathlib.Core.Bool.{Bool, true, false, _||_}
 use mathlib.Core.Option.{Option, none, some, Option·none-ne-some, Option·some-injective}
-use mathlib.Core.List.{List, [], _∷_, _++_, map}
-use Prim.Native.Nat.{ℕ, zero, suc, _+_, _-_, _≤_, _<_}
+use mathlib.Core.List.{List, [], _∷_, _++_}
+use Prim.Native.Nat.{ℕ, _+_, _-_, _≤_, _<_}
 use native.Mathlib.Nat.{add-zero, zero-add}
 use native.Mathlib.Decide.{decLt}
 use native.Mathlib.Omega.{arith}
 use lib.Dec.{eqb}
-use lib.ListN.{length, take, drop}
+use lib.ListN.{length}
 use borrow.Author.Tests.{eqb-false}
 use Rattle.walks.specs.declared.Stop.the-variants.{Ended}
 use Rattle.walks.specs.declared.Report.{Report}
-use Rattle.walks.specs.Calls.{Trail, zerosIn, costIn, pointsIn, stopAt, reportOf, listAfter, until}
-use Rattle.walks.specs.Zeros.{placesIn, Holds, Once, Distinct}
-use Rattle.walks.specs.Runs.{Request, Reply, Engine, callsIn, pointsTold, additionsTold, listedIn, lastTold, Sums, sumsOf, SaysEnded, Kept, Moved, OneReply, EachReply, WholeRun, Asks, unless, askedIn, awayWith, ranBy, Serves, Willing}
+use Rattle.walks.specs.Calls.{Trail, zerosIn, costIn, reportOf, until}
+use Rattle.walks.specs.Zeros.{Once, Distinct}
+use Rattle.walks.specs.Runs.{Request, Reply, Engine, callsIn, pointsTold, additionsTold, listedIn, lastTold, Sums, sumsOf, SaysEnded, Moved, OneReply, EachReply, WholeRun, Asks, unless, askedIn, ranBy, Serves, Willing}
 use Rattle.walks.proofs.CallLaw.{zeros-add, cost-add, points-le, points-one, points-end, stop-ended, report-place, after-front, after-drop}
 use Rattle.walks.proofs.JoinLaw.{zeros-until, cost-until}
 use Rattle.walks.proofs.ZeroLaw.{zeros-map, all-hold, all-once}

@@ -5,8 +5,7 @@ use mathlib.Core.Logic.{_⊎_}
 use mathlib.Core.List.{List, [], _∷_, _++_}
 use Prim.Native.Nat.{ℕ, zero, suc, _+_, _-_, _≤_, _<_}
 use lib.Dec.{eqb}
-use lib.ListN.{length, take, drop}
-use Rattle.gray.specs.declared.Place.{Place}
+use lib.ListN.{length, drop}
 use Rattle.walks.specs.declared.Stop.{Stop}
 use Rattle.walks.specs.declared.Stop.the-variants.{Ended, Full, Spent}
 use Rattle.walks.specs.declared.Report.{Report}
