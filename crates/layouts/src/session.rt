@@ -2,6 +2,7 @@
 // Contracts cite specs/Output (the output of an input, and what is left of it between two calls) and specs/Parts.
 use gray::Place;
 use opening::Record;
+use reader::ReadAnswer;
 use search::Answer;
 use walks::Report;
 use walks::Stop;
