@@ -200,11 +200,11 @@ static double draw_head(FILE *f) {
     y += 8;
     for (unsigned k = 0; k < release_count; k++)
         if (releases[k]->results.fault[0] == '\0') y = draw_release(f, k, y);
-    y = write_wrapped(f, EDGE, y + 8, "note", 108, "Plain is a C loop with divisions, gcc -O3, on the same systems in "
-                      "the same run: 1 is as fast as plain, 0.5 takes half its time. Shorter is better. Each case has a "
-                      "scale of its own from 0; the dashed line is plain. The thin line shows the lowest and highest of "
-                      "five groups of rounds. Faster, slower: than the release above. Only runs that ended with the "
-                      "right counts have a bar.");
+    y = write_wrapped(f, EDGE, y + 8, "note", 108, "Plain is a C loop with divisions (evaluation: all terms added), "
+                      "gcc -O3, on the same systems in the same run: 1 is as fast as plain, 0.5 takes half its time. "
+                      "Shorter is better. Each case has a scale of its own from 0; the dashed line is plain. The thin "
+                      "line shows the lowest and highest of five groups of rounds. Faster, slower: than the release "
+                      "above. Only runs that ended with the right counts have a bar.");
     return y + 6;
 }
 

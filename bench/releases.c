@@ -234,9 +234,8 @@ static unsigned least_at(const struct row *row) {
 }
 
 int is_best(const struct row *row, unsigned k) {
-    struct ratio least = ratio_at(row, least_at(row));
     int slower = 0;
-    if (k >= good_count || judge_ratios(least, ratio_at(row, k)) != NO_DIFFERENCE) return 0;
+    if (k >= good_count || judge_ratios(ratio_at(row, least_at(row)), ratio_at(row, k)) != NO_DIFFERENCE) return 0;
     for (unsigned other = 0; other < good_count; other++)
         slower = slower || judge_ratios(ratio_at(row, k), ratio_at(row, other)) == FASTER;
     return slower;

@@ -59,12 +59,12 @@ static void write_table(FILE *f) {
         fputc('\n', f);
     }
     fputs("Processor time in nanoseconds a point. Spread: from the lower to the upper quartile of the rounds.\n"
-          "To plain: a run's least time by that of the plain walk (gcc), in five groups of rounds; the middle, lowest and\n"
-          "highest of the five.\n"
+          "To plain: a run's least time by that of the plain walk (gcc), in five groups of rounds; the middle,\n"
+          "lowest and highest of the five.\n"
           "The C walks check nothing they are lent. The library judges table and record at each call.\n", f);
     fprintf(f, "Library: release %s, commit %.12s, tree %s; kit %s\n", results.fact[RELEASE], results.fact[COMMIT],
             results.fact[TREE], results.fact[KIT]);
-    fprintf(f, "Measured %s on %s; C at -O3 by %s and %s; seed %s\n", results.fact[DATE], results.fact[PROCESSOR],
+    fprintf(f, "Measured %s on %s; C at -O3 by %s; clang: %s; seed %s\n", results.fact[DATE], results.fact[PROCESSOR],
             results.fact[GCC], results.fact[CLANG], results.fact[SEED]);
 }
 
@@ -126,8 +126,8 @@ static void write_picture(FILE *f) {
             ".words { fill: #a03000; font-style: italic }</style>\n<rect width=\"%d\" height=\"%u\" fill=\"#fff\"/>\n",
             WIDE, high, WIDE, high, WIDE, high);
     write_text(f, 16, 28, "title", "Nanoseconds a point: release %s", results.fact[RELEASE]);
-    write_text(f, 16, 48, "note", "Median of the rounds; shorter is better. Each case has a scale of its own, from 0 to "
-               "its slowest run. A run that did not end as asked has no bar.");
+    write_text(f, 16, 48, "note", "Median of the rounds; shorter is better. Each case has a scale of its own from 0. "
+               "Runs that did not end as asked have no bar.");
     FOR_CASES(c) {
         char title[MOST_WORDS];
         case_title(c, title);
