@@ -16,6 +16,8 @@ mod lent;
 mod opening;
 mod records;
 
+pub use calls::judged;
+pub use calls::ran;
 pub use calls::search;
 pub use lent::search_lent;
 
