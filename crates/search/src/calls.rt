@@ -35,7 +35,7 @@ fn fits_table(n: u64, m: u64, table: &[u64], r: Record) -> bool
 }
 
 // Why a walk stopped before place at: asked in the order ended, full, spent.
-fn stop_of(at: u64, end: u64, found: usize, len: usize) -> Stop
+pub fn stop_of(at: u64, end: u64, found: usize, len: usize) -> Stop
     ensures { λ s. ⌜ s ≡ stopFrom at end found len ⌝ }
 {
     if at == end {

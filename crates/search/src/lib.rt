@@ -19,6 +19,7 @@ mod records;
 pub use calls::judged;
 pub use calls::ran;
 pub use calls::search;
+pub use calls::stop_of;
 pub use lent::search_lent;
 
 // The walk of one table, between two calls. Slots from n to 19 are zero.
