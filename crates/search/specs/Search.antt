@@ -43,12 +43,16 @@ sameRecord r s =
 abbrev pub fits : ℕ → ℕ → List ℕ → Record → Bool
 fits n m t r = leb (r .place .0) (3 ^ n) && sameRecord r (openedAt n m t (r .place .0))
 
-abbrev pub searchVerdict : ℕ → ℕ → List ℕ → Record → ℕ → List ℕ → Verdict
-searchVerdict n m t r b l =
+-- what a call is refused for, with a list of c entries
+abbrev pub roomVerdict : ℕ → ℕ → List ℕ → Record → ℕ → ℕ → Verdict
+roomVerdict n m t r b c =
     sized n m
     (long n t
     (paired n m t
-    (refuse (not (fits n m t r)) refusal.Record (refuse (eqb b 0) refusal.Budget (refuse (eqb (length l) 0) refusal.List verdict.Done)))))
+    (refuse (not (fits n m t r)) refusal.Record (refuse (eqb b 0) refusal.Budget (refuse (eqb c 0) refusal.List verdict.Done)))))
+
+abbrev pub searchVerdict : ℕ → ℕ → List ℕ → Record → ℕ → List ℕ → Verdict
+searchVerdict n m t r b l = roomVerdict n m t r b (length l)
 
 -- the answer: what the call did, or the refusal alone
 abbrev pub answerFrom : Verdict → Outcome → Answer

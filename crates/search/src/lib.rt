@@ -8,7 +8,10 @@ mod calls;
 mod lent;
 mod records;
 
+pub use calls::judged;
+pub use calls::ran;
 pub use calls::search;
+pub use calls::stop_of;
 pub use lent::search_lent;
 
 // What a call says: how it stopped and what it did, or why it was refused.

@@ -1,0 +1,2 @@
+pub mod WireLaw
+pub mod LentLaw
