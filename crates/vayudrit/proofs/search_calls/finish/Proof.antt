@@ -57,7 +57,7 @@ returns-2 c =
     let e = c .before .before .a2 .given .1 in (
       c .number .ensures ∙ sym (ap answerNumber e),
       sym (ap (λ (x : Answer). recordBytes x (a .o .«record») (a .«record» .now)) e),
-      sym (ap (λ (x : Answer). answerBytes x (a .o .«record») (a .answer .now)) e),
+      sym (ap (λ (x : Answer). answerBytes (a .end) x (a .answer .now)) e),
     )
 
 pub finish-spec : {M : Type 1} → statement M
