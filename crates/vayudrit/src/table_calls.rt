@@ -12,8 +12,8 @@ pub extern "C" fn vayudrit_pack(n: u64, m: u64, rows: &[i8], table: &mut [u64]) 
     ensures { λ c. ⌜ (c ≡ codeOf (packVerdict n m (now (rows .entry)) (now (table .entry))))
         × (now (table .exit) ≡ packAfter n m (now (rows .entry)) (now (table .entry))) ⌝ }
 {
-    let v = rows::pack(n, m, rows, table);
-    refusals::code(v)
+    let packed = rows::pack(n, m, rows, table);
+    refusals::code(packed)
 }
 
 // Whether a table has its length and only legal pairs.
@@ -21,8 +21,8 @@ pub extern "C" fn vayudrit_pack(n: u64, m: u64, rows: &[i8], table: &mut [u64]) 
 pub extern "C" fn vayudrit_check(n: u64, m: u64, table: &[u64]) -> u64
     ensures { λ c. ⌜ c ≡ codeOf (checkedOf n m (now (table .entry))) ⌝ }
 {
-    let v = tables::check(n, m, table);
-    refusals::code(v)
+    let checked = tables::check(n, m, table);
+    refusals::code(checked)
 }
 
 // The table of differences of a coefficient table.
@@ -36,8 +36,8 @@ pub extern "C" fn vayudrit_differences(
     ensures { λ c. ⌜ (c ≡ codeOf (copyVerdict n m (now (coefficients .entry)) (now (table .entry))))
         × (now (table .exit) ≡ differencesAfter n m (now (coefficients .entry)) (now (table .entry))) ⌝ }
 {
-    let v = differences::differences(n, m, coefficients, table);
-    refusals::code(v)
+    let taken = differences::differences(n, m, coefficients, table);
+    refusals::code(taken)
 }
 
 // The coefficient table of a table of differences.
@@ -51,8 +51,8 @@ pub extern "C" fn vayudrit_coefficients(
     ensures { λ c. ⌜ (c ≡ codeOf (copyVerdict n m (now (table .entry)) (now (coefficients .entry))))
         × (now (coefficients .exit) ≡ coefficientsAfter n m (now (table .entry)) (now (coefficients .entry))) ⌝ }
 {
-    let v = differences::coefficients(n, m, table, coefficients);
-    refusals::code(v)
+    let restored = differences::coefficients(n, m, table, coefficients);
+    refusals::code(restored)
 }
 
 // The value of each equation at a point, as two words.
