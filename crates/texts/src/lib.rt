@@ -6,7 +6,7 @@ ghost use lib.ListN.{length, drop};
 ghost use Rattle.texts.specs.Text.{Put, decimalOf, digitsOf, layoutLine, layoutLines, headLine, totalsLine, refusalLine};
 
 // Bytes as they are.
-fn put(text: &mut [u8], at: usize, s: &[u8]) -> usize
+pub fn put(text: &mut [u8], at: usize, s: &[u8]) -> usize
     requires { ⌜ at + length (now s) ≤ length (now text) ⌝ }
     ensures { λ r. ⌜ Put (now (text .entry)) at (now (s .entry)) (now (text .exit)) r ⌝ }
 {
