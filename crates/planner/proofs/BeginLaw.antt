@@ -8,23 +8,23 @@ use lib.Dec.{eqb, ltb}
 use lib.ListN.{length, take, drop}
 use lib.Seq.{take-at}
 use borrow.Author.Tests.{eq-eqb, le-ltb}
+use Rattle.refusals.specs.declared.Refusal.{Refusal}
 use Rattle.refusals.specs.declared.Refusal.the-variants as refusal
 use Rattle.refusals.specs.declared.Verdict.{Verdict}
 use Rattle.refusals.specs.declared.Verdict.the-variants as verdict
-use Rattle.refusals.specs.Refusal.{refuse, after}
+use Rattle.refusals.specs.Refusal.{numberOf, refuse, after}
 use Rattle.refusals.proofs.RefusalLaw.{refuse-none, Within, sized-next}
 use Rattle.tables.specs.Monomials.{countOf}
 use Rattle.tables.specs.Words.{Table, legalFront, wordsOf, differencesOf}
 use Rattle.tables.specs.Answers.{long, paired, checkedOf, copyVerdict, differencesAfter}
 use Rattle.tables.proofs.WordLaw.{front-whole, words-table}
 use Rattle.tables.proofs.RoundLaw.{differences-table}
-use Rattle.graphs.specs.declared.GraphFault.{GraphFault}
-use Rattle.graphs.specs.declared.ReadAnswer.the-variants as answer
-use Rattle.graphs.specs.Reading.{Ends, Outcome, graph, refused, outcomeOf, faultNumber}
-use Rattle.graphs.specs.Equations.{systemOf}
-use Rattle.graphs.specs.Answers.{answerOf, wordsAfter}
-use Rattle.graphs.specs.Parts.{Drawn}
+use Rattle.graphs.specs.Reading.{Ends, Outcome, graph, refused, outcomeOf}
+use Rattle.graphs.specs.Drawn.{Drawn}
 use Rattle.graphs.proofs.SoundLaw.{text-drawn}
+use Rattle.reader.specs.declared.ReadAnswer.the-variants as answer
+use Rattle.reader.specs.Equations.{systemOf}
+use Rattle.reader.specs.Answers.{answerOf, wordsAfter}
 use Rattle.walks.specs.Calls.{zerosIn, costIn}
 use Rattle.search.specs.declared.Opened.{Opened}
 use Rattle.search.specs.Opened.{openedAt, noRecord, openVerdict, openOf}
@@ -32,7 +32,8 @@ use Rattle.search.specs.Search.{trailOf}
 use Rattle.search.proofs.VerdictLaw.{checked-next}
 use Rattle.search.proofs.DemandLaw.{end-is, cost-all}
 use Rattle.planner.specs.declared.Session.{Session}
-use Rattle.texts.specs.Text.{layoutLines, headLine, totalsLine, refusalLine}
+use Rattle.texts.specs.Text.{refusalLine}
+use Rattle.listing.specs.Listing.{layoutLines, headLine, totalsLine}
 use Rattle.planner.specs.Output.{layoutsIn, writtenFor, outputOf, toldFor, toldOf, leftFrom, leftIf, leftOf, toldWhen, Begun}
 use Rattle.planner.specs.Parts.{Refuses, Startable, Started}
 use Rattle.planner.proofs.GraphLaw.{zeros-layouts}
@@ -99,13 +100,13 @@ answer-graph : (o : Outcome) (n m : ℕ) → answerOf o ≡ answer.Graph n m →
 answer-graph (graph v es) n m e = let p : v ≡ n = cc in let q : length es ≡ m = cc in (es, ap (λ (x : ℕ). graph x es) p, q)
 answer-graph (refused r k) n m e = absurd (let z : _≡_ {A = ℕ} 0 1 = cc in omega arith)
 
-answer-refused : (o : Outcome) (r : GraphFault) (k : ℕ) → answerOf o ≡ answer.Refused r k → o ≡ refused r k
+answer-refused : (o : Outcome) (r : Refusal) (k : ℕ) → answerOf o ≡ answer.Refused r k → o ≡ refused r k
 answer-refused (graph v es) r k e = absurd (let z : _≡_ {A = ℕ} 0 1 = cc in omega arith)
-answer-refused (refused f j) r k e = let p : f ≡ r = cc in let q : j ≡ k = cc in ap₂ (λ (x : GraphFault) (y : ℕ). refused x y) p q
+answer-refused (refused f j) r k e = let p : f ≡ r = cc in let q : j ≡ k = cc in ap₂ (λ (x : Refusal) (y : ℕ). refused x y) p q
 
 -- a refusal is the whole output
-pub begun-refused : (input table b : List ℕ) (f : GraphFault) (number line : ℕ) (r : Session) → answer.Refused f line ≡ answerOf (outcomeOf input 462)
-    → number ≡ faultNumber f → Refuses number line b r → Begun input table b r
+pub begun-refused : (input table b : List ℕ) (f : Refusal) (number line : ℕ) (r : Session) → answer.Refused f line ≡ answerOf (outcomeOf input 462)
+    → number ≡ numberOf f → Refuses number line b r → Begun input table b r
 unfolding outputOf toldOf leftOf
 begun-refused input table b f number line r e q h =
     record {

@@ -2,9 +2,11 @@
 use mathlib.Core.Path.{refl}
 use Rattle.residues.specs.Sums.{sum}
 use Rattle.gray.specs.Numbers.{digit, number, pointDigit, pointOf, placeDigit, placeOf}
-use Rattle.lines.specs.Lines.{firstOf, decimalFrom, pairIn, starts, shapeOf}
-use Rattle.graphs.specs.Reading.{linesOf, takeLine, endOf, readLines, outcomeOf}
-use Rattle.texts.specs.Text.{decimalIn, digitsOf, layoutLine, layoutLines, headLine, totalsLine, refusalLine}
+use Rattle.lines.specs.Lines.{firstOf, decimalFrom, pairIn, starts, linesOf}
+use Rattle.graphs.specs.Shapes.{shapeOf}
+use Rattle.graphs.specs.Reading.{takeLine, endOf, readLines, outcomeOf}
+use Rattle.texts.specs.Text.{decimalIn, refusalLine}
+use Rattle.listing.specs.Listing.{digitsOf, layoutLine, layoutLines, headLine, totalsLine}
 use Rattle.planner.specs.Output.{differAt, layoutsIn, outputOf, toldOf}
 use Rattle.planner.specs.Cases.{Cases}
 

@@ -16,8 +16,9 @@ use Rattle.tables.specs.Words.{polyAt, wordsOf, differencesOf}
 use Rattle.tables.proofs.AgreeLaw.{Agree, agree-trans, back-agree, back-of-table}
 use Rattle.tables.proofs.RoundLaw.{words-agree, differences-hold}
 use Rattle.graphs.specs.Reading.{Ends, graph, outcomeOf}
-use Rattle.graphs.specs.Equations.{noEnds, systemOf}
-use Rattle.graphs.proofs.ColourLaw.{colours}
+use Rattle.graphs.specs.Drawn.{noEnds}
+use Rattle.reader.specs.Equations.{systemOf}
+use Rattle.reader.proofs.ColourLaw.{colours}
 use Rattle.walks.specs.Calls.{listed, zerosIn}
 use Rattle.walk.proofs.CallLaw.{zeros-all, all-zeros}
 use Rattle.search.specs.Opened.{systemOf as behind}

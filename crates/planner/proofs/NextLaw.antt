@@ -31,7 +31,7 @@ use Rattle.search.specs.Search.{trailOf, searchVerdict, ranOf, outcomeFrom, out
 use Rattle.search.proofs.OpenLaw.{within, power-small}
 use Rattle.search.proofs.VerdictLaw.{asked, verdict-opened}
 use Rattle.planner.specs.declared.Session.{Session}
-use Rattle.texts.specs.Text.{layoutLine, layoutLines, totalsLine}
+use Rattle.listing.specs.Listing.{layoutLine, layoutLines, totalsLine}
 use Rattle.planner.specs.Output.{Standing, leftFrom, leftIf, leftOf, Went}
 use Rattle.planner.specs.Parts.{isEnded, Tellable, Told}
 

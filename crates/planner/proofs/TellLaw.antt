@@ -8,7 +8,8 @@ use lib.ListN.{length}
 use Rattle.walks.specs.declared.Report.{Report}
 use Rattle.search.specs.declared.Record.{Record}
 use Rattle.planner.specs.declared.Session.{Session}
-use Rattle.texts.specs.Text.{Put, layoutLines, totalsLine}
+use Rattle.texts.specs.Text.{Put}
+use Rattle.listing.specs.Listing.{layoutLines, totalsLine}
 use Rattle.planner.specs.Output.{leftIf}
 use Rattle.planner.specs.Parts.{isEnded, Tellable, Told}
 use Rattle.planner.proofs.NextLaw.{append-none}

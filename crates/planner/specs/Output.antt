@@ -6,15 +6,17 @@ use Prim.Native.Nat.{ℕ, zero, suc, _+_, _-_, _*_, _^_, _≤_, _<_}
 use lib.Dec.{eqb}
 use lib.ListN.{length, take}
 use Rattle.refusals.specs.declared.Verdict.the-variants.{Done}
+use Rattle.refusals.specs.Refusal.{numberOf}
 use Rattle.gray.specs.Numbers.{pointDigit, pointOf}
 use Rattle.tables.specs.Monomials.{countOf}
 use Rattle.tables.specs.Answers.{checkedOf}
-use Rattle.graphs.specs.Reading.{Ends, Outcome, graph, refused, outcomeOf, faultNumber}
+use Rattle.graphs.specs.Reading.{wordsLeast, Ends, Outcome, graph, refused, outcomeOf}
 use Rattle.walks.specs.Calls.{Trail, listed, zerosIn, costIn}
 use Rattle.search.specs.Search.{trailOf}
 use Rattle.search.specs.Opened.{openedAt}
 use Rattle.planner.specs.declared.Session.{Session}
-use Rattle.texts.specs.Text.{layoutLines, headLine, totalsLine, refusalLine}
+use Rattle.texts.specs.Text.{refusalLine}
+use Rattle.listing.specs.Listing.{layoutLines, headLine, totalsLine}
 
 -- ---- for planners
 -- whether the ends of every edge differ at the point of place p
@@ -32,10 +34,10 @@ abbrev pub writtenFor : Outcome → List ℕ
 writtenFor (graph v es) =
     headLine v (length es)
     ++ (layoutLines v (layoutsIn v es 0 (3 ^ v)) ++ totalsLine (3 ^ v) (2 * (3 ^ v - 1) - v) (length (layoutsIn v es 0 (3 ^ v))))
-writtenFor (refused r k) = refusalLine (faultNumber r) k
+writtenFor (refused r k) = refusalLine (numberOf r) k
 
 unfoldable pub outputOf : List ℕ → List ℕ
-outputOf text = writtenFor (outcomeOf text 462)
+outputOf text = writtenFor (outcomeOf text wordsLeast)
 
 -- "ended"
 abbrev pub endedLine : List ℕ
@@ -44,10 +46,10 @@ endedLine = 101 ∷ 110 ∷ 100 ∷ 101 ∷ 100 ∷ 10 ∷ []
 -- what is told beside the output once all of it was written: that the search ended, or the refusal
 abbrev pub toldFor : Outcome → List ℕ
 toldFor (graph v es) = endedLine
-toldFor (refused r k) = refusalLine (faultNumber r) k
+toldFor (refused r k) = refusalLine (numberOf r) k
 
 unfoldable pub toldOf : List ℕ → List ℕ
-toldOf text = toldFor (outcomeOf text 462)
+toldOf text = toldFor (outcomeOf text wordsLeast)
 
 -- ---- between two calls
 -- a session at place p of a checked table: its record and its counts are those of the places before p

@@ -11,7 +11,8 @@ use Rattle.walks.specs.declared.Stop.the-variants.{Ended, Full, Spent}
 use Rattle.walks.specs.declared.Report.{Report}
 use Rattle.search.specs.declared.Record.{Record}
 use Rattle.planner.specs.declared.Session.{Session}
-use Rattle.texts.specs.Text.{layoutLines, headLine, totalsLine, refusalLine}
+use Rattle.texts.specs.Text.{refusalLine}
+use Rattle.listing.specs.Listing.{layoutLines, headLine, totalsLine}
 use Rattle.planner.specs.Output.{Standing, leftIf}
 
 -- the bytes b that are to be written hold a refusal, and the session is over

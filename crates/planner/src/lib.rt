@@ -1,7 +1,7 @@
 // The whole search of one graph file, a text at a time: what `begin` and each `next` leave in the text, joined, is the program's output.
 // Contracts cite specs/Output (the output of an input, and what is left of it between two calls) and specs/Parts.
-use graphs::ReadAnswer;
 use gray::Place;
+use reader::ReadAnswer;
 use search::Answer;
 use search::Record;
 use walks::Report;
@@ -63,7 +63,7 @@ fn start(n: u64, m: u64, words: &[u64], table: &mut [u64], text: &mut [u8]) -> S
     tables::differences(n, m, words, table);
     let o = search::open(n, m, table, Place(0));
     let first = o.record;
-    let used = texts::put_head(text, n, m);
+    let used = listing::put_head(text, n, m);
     Session {
         n,
         m,
@@ -81,10 +81,10 @@ pub fn begin(input: &[u8], words: &mut [u64], table: &mut [u64], text: &mut [u8]
     requires { ⌜ (length (now words) ≡ 462) × (length (now table) ≡ 462) × (55 ≤ length (now text)) ⌝ }
     ensures { λ r. ⌜ Begun (now (input .entry)) (now (table .exit)) (now (text .exit)) r ⌝ }
 {
-    let answer = graphs::read(input, words);
+    let answer = reader::read(input, words);
     match answer {
         ReadAnswer::Refused { why, line } => {
-            let number = graphs::fault_number(why);
+            let number = refusals::number(why);
             refused(number, line, text)
         }
         ReadAnswer::Graph { n, m } => {
@@ -115,7 +115,7 @@ fn tell(s: Session, record: Record, report: Report, points: &[u64], text: &mut [
     let found = s.found + report.found;
     let place = s.points + report.points;
     let over = ended(stop);
-    let used = texts::put_layouts(text, s.n, points);
+    let used = listing::put_layouts(text, s.n, points);
     if !over {
         return Session {
             n: s.n,
@@ -128,7 +128,7 @@ fn tell(s: Session, record: Record, report: Report, points: &[u64], text: &mut [
             open: true,
         };
     }
-    let last = texts::put_totals(text, used, place, additions, found);
+    let last = listing::put_totals(text, used, place, additions, found);
     Session {
         n: s.n,
         m: s.m,

@@ -6,9 +6,26 @@ use native.Mathlib.Omega.{arith}
 use lib.Dec.{ltb}
 use borrow.Author.Tests.{ltb-false, le-ltb}
 use Rattle.refusals.specs.declared.Refusal.{Refusal}
+use Rattle.refusals.specs.declared.Refusal.the-variants as refusal
 use Rattle.refusals.specs.declared.Verdict.{Verdict}
 use Rattle.refusals.specs.declared.Verdict.the-variants.{Done, Refused}
-use Rattle.refusals.specs.Refusal.{refuse, sized, after, codeOf}
+use Rattle.refusals.specs.Refusal.{numberOf, refuse, sized, after, codeOf}
+
+-- 0 is the number of no refusal
+pub number-pos : (f : Refusal) → numberOf f ≡ 0 → ⊥
+number-pos refusal.Size e = omega (arith, e)
+number-pos refusal.Length e = omega (arith, e)
+number-pos refusal.Pair e = omega (arith, e)
+number-pos refusal.Range e = omega (arith, e)
+number-pos refusal.Record e = omega (arith, e)
+number-pos refusal.Budget e = omega (arith, e)
+number-pos refusal.List e = omega (arith, e)
+number-pos refusal.Shape e = omega (arith, e)
+number-pos refusal.Order e = omega (arith, e)
+number-pos refusal.Limits e = omega (arith, e)
+number-pos refusal.Vertex e = omega (arith, e)
+number-pos refusal.Count e = omega (arith, e)
+number-pos refusal.Long e = omega (arith, e)
 
 never : (r : Refusal) → Refused r ≡ Done → ⊥
 never r e = let z : _≡_ {A = ℕ} 0 1 = cc in omega arith

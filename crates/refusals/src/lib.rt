@@ -1,4 +1,4 @@
-// Why an operation refuses: one case for each of document 01's numbers 1 to 7.
+// Why an operation refuses: one case for each of document 01's numbers.
 ghost use mathlib.Core.Path.{_≡_};
 ghost use Rattle.refusals.specs.Refusal.{numberOf, codeOf};
 
@@ -17,6 +17,18 @@ pub enum Refusal {
     Budget,
     // The list has no entry.
     List,
+    // A line of a file has no known shape.
+    Shape,
+    // A second p line, a line that needs one before it, or none at the end.
+    Order,
+    // The numbers of a p line are outside their limits.
+    Limits,
+    // A vertex that was not declared, or an edge from a vertex to itself.
+    Vertex,
+    // The number of lines is not the declared one.
+    Count,
+    // The text is too long.
+    Long,
 }
 
 // Document 01's number for it.
@@ -31,6 +43,12 @@ pub fn number(r: Refusal) -> u64
         Refusal::Record => 5,
         Refusal::Budget => 6,
         Refusal::List => 7,
+        Refusal::Shape => 10,
+        Refusal::Order => 11,
+        Refusal::Limits => 12,
+        Refusal::Vertex => 13,
+        Refusal::Count => 14,
+        Refusal::Long => 15,
     }
 }
 

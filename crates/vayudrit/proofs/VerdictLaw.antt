@@ -9,11 +9,10 @@ use lib.ListN.{length}
 use borrow.Author.Tests.{eqb-true, eq-eqb, ne-eqb, not-false}
 use Rattle.refusals.specs.declared.Refusal.{Refusal}
 use Rattle.refusals.specs.declared.Refusal.the-variants.{Size, Length}
-use Rattle.refusals.specs.declared.Refusal.the-variants as refusal
 use Rattle.refusals.specs.declared.Verdict.{Verdict}
 use Rattle.refusals.specs.declared.Verdict.the-variants.{Done, Refused}
-use Rattle.refusals.specs.Refusal.{numberOf, codeOf, refuse, sized, after}
-use Rattle.refusals.proofs.RefusalLaw.{done-test, done-next, refuse-none, Within, sized-within, sized-next, sized-done}
+use Rattle.refusals.specs.Refusal.{codeOf, refuse, sized, after}
+use Rattle.refusals.proofs.RefusalLaw.{number-pos, done-test, done-next, refuse-none, Within, sized-within, sized-next, sized-done}
 use Rattle.tables.specs.Monomials.{countOf}
 use Rattle.walks.specs.declared.Report.{Report}
 use Rattle.walks.specs.Calls.{reportOf, pointsIn, zerosIn}
@@ -37,15 +36,6 @@ kept false r f v w g e = g e
 
 pub not-refused : (f : Refusal) (w : Verdict) → Done ≡ Refused f → w ≡ Refused f
 not-refused f w e = let z : _≡_ {A = ℕ} 0 1 = cc in absurd (omega arith)
-
-number-pos : (f : Refusal) → numberOf f ≡ 0 → ⊥
-number-pos Size e = omega (arith, e)
-number-pos Length e = omega (arith, e)
-number-pos refusal.Pair e = omega (arith, e)
-number-pos refusal.Range e = omega (arith, e)
-number-pos refusal.Record e = omega (arith, e)
-number-pos refusal.Budget e = omega (arith, e)
-number-pos refusal.List e = omega (arith, e)
 
 pub code-zero : (v : Verdict) → codeOf v ≡ 0 → v ≡ Done
 code-zero Done e = refl

@@ -6,7 +6,7 @@ use lib.ListN.{take, drop}
 use lib.Seq.{length-take-le}
 use Rattle.tables.specs.Monomials.{countOf}
 use Rattle.graphs.specs.Reading.{outcomeOf}
-use Rattle.graphs.specs.Answers.{answerOf, wordsAfter}
+use Rattle.reader.specs.Answers.{answerOf, wordsAfter}
 use Rattle.planner.proofs.BeginLaw.{begun-refused, least, most, startable, begun-graph}
 use borrow.Author.Needs.{needs}
 use Rattle.planner.proofs.begin.Statement.{statement}
@@ -18,8 +18,8 @@ read-requires c κs = search needs
 enum-known-answer : tie.Need-enum-known-answer
 enum-known-answer c = search needs
 
-fault-number-requires : tie.Need-fault-number-requires
-fault-number-requires c κs = search needs
+number-requires : tie.Need-number-requires
+number-requires c κs = search needs
 
 refused-requires : tie.Need-refused-requires
 refused-requires c κs = search needs
@@ -72,7 +72,7 @@ returns c =
     let x = a .args .input .now in
     begun-refused x _ (c .before .before .refused .last .1 .1 .0) _ _ _ (c .before .before .refused .result)
     (sym (c .before .before .before .before .before .before .answer .given .1) ∙ r .ensures .0 ∙ ap (λ (w : ℕ). answerOf (outcomeOf x w)) (a .pre .0))
-    (c .before .before .before .before .fault-number .ensures) (c .before .before .refused .ensures)
+    (c .before .before .before .before .number .ensures) (c .before .before .refused .ensures)
 
 same-length-3 : tie.Need-same-length-3
 same-length-3 c = search needs
@@ -103,7 +103,7 @@ begin-spec =
     (tie.spec
     read-requires
     enum-known-answer
-    fault-number-requires
+    number-requires
     refused-requires
     enum-known-answer-2
     words-requires

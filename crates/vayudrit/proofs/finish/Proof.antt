@@ -52,7 +52,13 @@ returns c =
 
 -- src/lib.rt:61:1
 returns-2 : tie.Need-returns-2
-returns-2 c = search needs
+returns-2 c =
+    let a = c .before .before .before .before .before .before .before .args in
+    let e = c .before .before .a2 .given .1 in (
+      c .number .ensures ∙ sym (ap answerNumber e),
+      sym (ap (λ (x : Answer). recordBytes x (a .o .«record») (a .«record» .now)) e),
+      sym (ap (λ (x : Answer). answerBytes x (a .o .«record») (a .answer .now)) e),
+    )
 
 pub finish-spec : {M : Type 1} → statement M
 finish-spec =
