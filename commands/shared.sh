@@ -1,0 +1,237 @@
+# shellcheck shell=bash
+# What every command does around its program: arguments, the first build, signals and the exit status.
+# A command sets `name` (its own, its program's and its crate's) and `home`, defines `usage` and `meaning NUMBER LINE`, reads this
+# file and calls `run_command "$@"`.
+#
+# The shell that gives the exit status does nothing else. Another, its child, looks at the arguments, builds the program where that
+# is needed and then becomes it, with standard input and output as they were given. How it ended comes back in one line on
+# descriptor 3: the program tells it after its last write to standard output was taken. Nothing told is status 1, whatever became
+# of the child, and only a refusal that was told is status 2.
+
+# shellcheck disable=SC2154
+program=$home/target/bin/$name
+place=$home/target/commands # the lock and the logs of builds
+
+# ---- words
+
+# To standard error; that nobody can read them changes no status.
+say() { printf '%s: %s\n' "$name" "$*" >&2 2>/dev/null || :; }
+
+# A name of the user's, with nothing in it that a terminal would obey.
+shown() {
+    local text=$1
+    if [[ $text == *[![:print:]]* ]]; then printf '%s' "${text@Q}"; else printf '%s' "$text"; fi
+}
+
+# Removes a line of progress, whoever wrote it.
+wipe() { [[ ! -t 2 ]] || printf '\r\e[K' >&2 2>/dev/null || :; }
+
+# ---- in the child
+
+tell() { printf '%s\n' "$1" >&3; }
+
+die() {
+    say "$@"
+    tell said
+    exit 1
+}
+
+# Seconds as a planner says them.
+duration() { if (($1 < 60)); then echo "$1 s"; else echo "$(($1 / 60)) min $(($1 % 60)) s"; fi; }
+
+# Whether anything that the program is made of is newer than it, or it isn't there.
+outdated() {
+    [[ ! -x $program ]] ||
+        [[ -n $(find "$home/crates.txt" "$home/crates" -name must-fail -prune -o -newer "$program" -print -quit 2>/dev/null) ]]
+}
+
+# How many crates the program is made of.
+crates_needed() {
+    awk -F: -v want="$name" '{ sub(/#.*/, "") } NF == 2 { gsub(/[ \t]/, "", $1); needs[$1] = $2 }
+        function visit(crate, list, count, k) {
+            if (!(crate in needs) || crate in seen) return
+            seen[crate]; total++
+            count = split(needs[crate], list, " ")
+            for (k = 1; k <= count; k++) visit(list[k])
+        }
+        END { visit(want); print total + 0 }' "$home/crates.txt"
+}
+
+room=    # a folder of the build, removed at its end
+builder= # the build, leader of a group of its own
+
+end_build() {
+    local turn
+    if [[ -n $builder ]]; then
+        kill -TERM -- "-$builder" 2>/dev/null
+        for ((turn = 0; turn < 100; turn++)); do
+            kill -0 -- "-$builder" 2>/dev/null || break
+            ((turn != 50)) || kill -KILL -- "-$builder" 2>/dev/null
+            sleep 0.02
+        done
+    fi
+    [[ -z $room ]] || rm -rf "$room"
+    builder='' room=''
+}
+
+# The line of a build: on a terminal written over itself until the build ends, elsewhere once.
+watch_build() { # LOG
+    local total crate count began=$SECONDS
+    total=$(crates_needed)
+    [[ -t 2 ]] || say "building the program, which proves its $total crates first; this takes some minutes, once"
+    while kill -0 "$builder" 2>/dev/null; do
+        if [[ -t 2 ]]; then
+            count=$(grep -c '^rt: [a-z0-9_]* proved' "$1")
+            crate=$(sed -n 's/^rt: \([a-z0-9_]*\) proved.*/, \1/p' "$1" | tail -n 1)
+            printf '\r%s: building, which proves the program first: crate %d of %d%s, %s so far\e[K' \
+                "$name" "$count" "$total" "$crate" "$(duration $((SECONDS - began)))" >&2 2>/dev/null
+        fi
+        sleep 0.2
+    done
+    wipe
+}
+
+# One build at a time: who comes second waits, and finds everything built.
+take_lock() {
+    local waiting=0
+    mkdir -p "$place" || die "$place: there is no room for a build"
+    exec {lock}>"$place/lock" || die "$place/lock: the lock of the builds cannot be opened"
+    until flock -n "$lock"; do
+        ((waiting)) || say "another command is building; waiting for it"
+        waiting=1
+        sleep 0.2
+    done
+}
+
+build() {
+    local lock log=$place/$name.log
+    command -v rt >/dev/null ||
+        die "the program is not built yet, or older than its sources, and Rattle's 'rt', which builds it, is not on the path"
+    trap 'end_build; exit 1' USR1
+    take_lock
+    if outdated; then
+        # rt also runs what it built, as nobody, who has to reach this folder
+        room=$(mktemp -d /tmp/vayudrit.XXXXXX) || die "there is no room in /tmp"
+        chmod 711 "$room"
+        : >"$room/began"
+        (cd "$home" && TMPDIR=$room exec setsid rt check "$name") </dev/null >"$log" 2>&1 3>&- &
+        builder=$!
+        watch_build "$log"
+        wait "$builder" || { end_build; die "the program could not be built: 'rt check $name' failed; the log is $log"; }
+        [[ -x $program ]] || { end_build; die "'rt check $name' left no program; remove the folder target and try again"; }
+        touch -r "$room/began" "$program" # also when rt saw that nothing had really changed
+        end_build
+    fi
+    trap - USR1
+    exec {lock}>&-
+}
+
+# The commit or release of the sources, and the kit that proved the program.
+version() {
+    local source sum kit
+    source=$(cd "$home" && git describe --tags --always --dirty=', with changes' 2>/dev/null) ||
+        source=$(grep -v Format "$home/commands/release" 2>/dev/null) || source='of no known commit'
+    sum=$(sed -n 's/^logic=proved .*sum=\([0-9a-f]*\).*/\1/p' "$home/target/log/$name.say" 2>/dev/null)
+    kit=$(rt version 2>/dev/null) || kit=
+    [[ -n $sum && $kit == *"$sum" ]] || kit="a kit with logic $sum"
+    echo "$name, Vayudrit $source"
+    if outdated; then echo 'the program is not built yet, or older than its sources'; else echo "the program was proved by $kit"; fi
+}
+
+# The file named, or nothing, in `file`; --help and --version are answered here.
+take_arguments() {
+    local files=() last=0
+    while (($# > 0)); do
+        case $last$1 in
+        0-h | 0--help) usage && tell ended && exit 0 || exit 1 ;;
+        0--version) version && tell ended && exit 0 || exit 1 ;;
+        0--) last=1 ;;
+        0-?*) die "there is no option $(shown "$1"); --help tells which there are" ;;
+        *) files+=("$1") ;;
+        esac
+        shift
+    done
+    ((${#files[@]} <= 1)) || die "one file at a time; ${#files[@]} were named"
+    file=${files[0]--}
+}
+
+# Standard input becomes the file, unless that is "-".
+open_input() {
+    local words
+    words=$(shown "$file")
+    if [[ $file == - ]]; then
+        ((input)) || die "standard input is closed"
+        [[ ! -t 0 ]] || say "the graph is read from the terminal; Ctrl-D ends it (--help tells more)"
+        return
+    fi
+    [[ -e $file ]] || die "$words: there is no such file"
+    [[ ! -d $file ]] || die "$words: this is a folder and not a file"
+    [[ -r $file ]] || die "$words: the file may not be read"
+    exec <"$file" || die "$words: the file could not be opened"
+}
+
+# The child, until it is the program.
+become_program() {
+    local file
+    take_arguments "$@"
+    ((output)) || die "standard output is closed"
+    open_input
+    if outdated; then build; fi
+    exec "$program"
+}
+
+# ---- the shell that gives the status
+
+# A signal ends the child too, and the build that it may be at; then it ends this shell.
+pass_on() { # SIGNAL
+    local turn
+    trap '' HUP INT TERM
+    kill -USR1 "$!" 2>/dev/null
+    for ((turn = 0; turn < 400; turn++)); do
+        kill -0 "$!" 2>/dev/null || break
+        sleep 0.01
+    done
+    kill -KILL "$!" 2>/dev/null
+    wipe
+    trap - "$1"
+    kill -s "$1" "$$"
+}
+
+# The exit status, from what was told; where nothing was, from nothing else.
+judge() { # LINE STATUS
+    local refused='^refused ([0-9]+) line ([0-9]+)$' where=
+    if [[ $1 == ended ]]; then
+        exit 0
+    elif [[ $1 =~ $refused ]]; then
+        ((BASH_REMATCH[2] == 0)) || where="line ${BASH_REMATCH[2]}: "
+        say "refused: $where$(meaning "${BASH_REMATCH[1]}" "${BASH_REMATCH[2]}") (${BASH_REMATCH[1]})"
+        exit 2
+    elif [[ $1 != said ]] && (($2 != 141)); then # after SIGPIPE the reader knows
+        wipe
+        if (($2 > 128)); then
+            say "the program was ended by signal $(($2 - 128)); the output is not whole"
+        else
+            say "the program did not tell that it ended; the output is not whole"
+        fi
+    fi
+    exit 1
+}
+
+run_command() {
+    local in out told line status input=1 output=1
+    # a descriptor that is closed must not become that of another file
+    { : >&2; } 2>/dev/null || exec 2>/dev/null
+    { : <&0; } 2>/dev/null || { input=0 && exec </dev/null; }
+    { : >&1; } 2>/dev/null || { output=0 && exec >/dev/null; }
+    exec {in}<&0 {out}>&1
+    trap 'pass_on HUP' HUP
+    trap 'pass_on INT' INT
+    trap 'pass_on TERM' TERM
+    exec {told}< <(exec 3>&1 <&"$in" >&"$out" {in}<&- {out}>&- && become_program "$@")
+    exec {in}<&- {out}>&-
+    wait "$!"
+    status=$?
+    IFS= read -r -t 1 -u "$told" line || line=
+    trap '' PIPE # words that nobody reads
+    judge "$line" "$status"
+}
