@@ -1,14 +1,16 @@
-# shellcheck shell=bash
-# What every command does around its program: arguments, the first build, signals and the exit status.
-# A command sets `name` (its own, its program's and its crate's) and `home`, defines `usage` and `meaning NUMBER LINE`, reads this
-# file and calls `run_command "$@"`.
+# shellcheck shell=bash disable=SC2154,SC2317,SC1090
+# bash shared.sh NAME ARGUMENTS: what every command does around its program: arguments, the first build, signals, what was told.
+# commands/NAME.sh has the command's own words: `name` (of the command, its program and its crate), `usage`, `meaning NUMBER LINE`.
 #
-# The shell that gives the exit status does nothing else. Another, its child, looks at the arguments, builds the program where that
-# is needed and then becomes it, with standard input and output as they were given. How it ended comes back in one line on
-# descriptor 3: the program tells it after its last write to standard output was taken. Nothing told is status 1, whatever became
-# of the child, and only a refusal that was told is status 2.
+# This shell waits. Its child looks at the arguments, builds the program where that is needed and then becomes it, with standard
+# input and output as they were given. How it ended comes back in one line on descriptor 3: the program tells it after its last
+# write to standard output was taken. Nothing told is status 1, whatever became of the child; a refusal that was told is status 77,
+# of which commands/status.sh makes the command's own.
+set -u +o posix
 
-# shellcheck disable=SC2154
+home=$(dirname "$(dirname "$(readlink -f "${BASH_SOURCE[0]}")")")
+. "$home/commands/$1.sh" || exit 1
+shift
 program=$home/target/bin/$name
 place=$home/target/commands # the lock and the logs of builds
 
@@ -107,7 +109,7 @@ build() {
     local lock log=$place/$name.log
     command -v rt >/dev/null ||
         die "the program is not built yet, or older than its sources, and Rattle's 'rt', which builds it, is not on the path"
-    trap 'end_build; exit 1' USR1
+    trap 'end_build; exit 1' USR1 HUP TERM
     take_lock
     if outdated; then
         # rt also runs what it built, as nobody, who has to reach this folder
@@ -122,7 +124,7 @@ build() {
         touch -r "$room/began" "$program" # also when rt saw that nothing had really changed
         end_build
     fi
-    trap - USR1
+    trap - USR1 HUP TERM
     exec {lock}>&-
 }
 
@@ -180,12 +182,12 @@ become_program() {
     exec "$program"
 }
 
-# ---- the shell that gives the status
+# ---- the shell that waits
 
-# A signal ends the child too, and the build that it may be at; then it ends this shell.
-pass_on() { # SIGNAL
+# The child ends, with the build that it may be at, before this shell.
+end_child() {
     local turn
-    trap '' HUP INT TERM
+    trap '' USR1 HUP TERM
     kill -USR1 "$!" 2>/dev/null
     for ((turn = 0; turn < 400; turn++)); do
         kill -0 "$!" 2>/dev/null || break
@@ -193,11 +195,10 @@ pass_on() { # SIGNAL
     done
     kill -KILL "$!" 2>/dev/null
     wipe
-    trap - "$1"
-    kill -s "$1" "$$"
+    exit 1
 }
 
-# The exit status, from what was told; where nothing was, from nothing else.
+# The status, from what was told; where nothing was, from nothing else.
 judge() { # LINE STATUS
     local refused='^refused ([0-9]+) line ([0-9]+)$' where=
     if [[ $1 == ended ]]; then
@@ -205,14 +206,11 @@ judge() { # LINE STATUS
     elif [[ $1 =~ $refused ]]; then
         ((BASH_REMATCH[2] == 0)) || where="line ${BASH_REMATCH[2]}: "
         say "refused: $where$(meaning "${BASH_REMATCH[1]}" "${BASH_REMATCH[2]}") (${BASH_REMATCH[1]})"
-        exit 2
+        exit 77
     elif [[ $1 != said ]] && (($2 != 141)); then # after SIGPIPE the reader knows
         wipe
-        if (($2 > 128)); then
-            say "the program was ended by signal $(($2 - 128)); the output is not whole"
-        else
-            say "the program did not tell that it ended; the output is not whole"
-        fi
+        (($2 <= 128)) || say "the program was ended by signal $(($2 - 128))"
+        say "the run did not end; its output is not whole"
     fi
     exit 1
 }
@@ -220,13 +218,11 @@ judge() { # LINE STATUS
 run_command() {
     local in out told line status input=1 output=1
     # a descriptor that is closed must not become that of another file
-    { : >&2; } 2>/dev/null || exec 2>/dev/null
-    { : <&0; } 2>/dev/null || { input=0 && exec </dev/null; }
-    { : >&1; } 2>/dev/null || { output=0 && exec >/dev/null; }
+    [[ -e /dev/fd/0 ]] || { input=0 && exec </dev/null; }
+    [[ -e /dev/fd/1 ]] || { output=0 && exec >/dev/null; }
+    [[ -e /dev/fd/2 ]] || exec 2>/dev/null
     exec {in}<&0 {out}>&1
-    trap 'pass_on HUP' HUP
-    trap 'pass_on INT' INT
-    trap 'pass_on TERM' TERM
+    trap end_child USR1 HUP TERM
     exec {told}< <(exec 3>&1 <&"$in" >&"$out" {in}<&- {out}>&- && become_program "$@")
     exec {in}<&- {out}>&-
     wait "$!"
@@ -235,3 +231,5 @@ run_command() {
     trap '' PIPE # words that nobody reads
     judge "$line" "$status"
 }
+
+run_command "$@"

@@ -57,18 +57,38 @@ script() { ./layouts "$@"; }
 from() { ./layouts <"$1"; }
 gives 0 '' script --help
 gives 0 '' script -h
-gives 1 'unknown option' script --all
+gives 1 'there is no option --all; ' script --all
+[[ $(wc -l <"$out/stderr") -eq 1 ]] || fail 'more than a sentence for a typo'
+gives 0 '' script --version
+[[ $(cat "$out/stdout") =~ Vayudrit\ [0-9a-zA-Z].*proved\ by\ .*logic\ [0-9a-f] ]] || fail "--version: $(cat "$out/stdout")"
 gives 1 'one file at a time' script examples/triangle.col examples/full4.col
 gives 1 'no such file' script "$out/missing"
+gives 1 'no such file' script $'none\e[31m'
+! grep -q $'\e' "$out/stderr" || fail 'a control character of a name is sent to the terminal'
 gives 1 'folder' script examples
-gives 1 'did not end' from examples # a folder can be opened and not be read
-closed_input() { ./layouts <&-; }
-gives 1 'did not end' closed_input
+gives 0 '' script -- examples/full4.col
+dash() { ./layouts "$@" - <examples/full4.col; }
+gives 0 '' dash
+gives 0 '' dash --
+gives 1 'could not be read' from examples # a folder can be opened and not be read
+closed_input() { ./layouts "$@" <&-; }
+gives 1 'standard input is closed' closed_input
+gives 0 '' closed_input examples/full4.col
 program_closed_input() { target/bin/layouts <&-; }
 gives 0 . program_closed_input # in words: the program has no exit status
 [[ ! -s $out/stdout ]] || fail "a closed input: $(head -n 1 "$out/stdout")"
 gives 2 'refused: there is no p line (11)' from /dev/null
 [[ $(cat "$out/stdout") == 'refused 11 line 0' ]] || fail 'an empty text'
+printf 'p edge 2 1\r\ne 1 2\r\n' >"$out/text"
+gives 2 'line 1: .*carriage returns.*byte order mark.* (10)' script "$out/text"
+other_shell() { sh layouts "$1"; }
+gives 0 '' other_shell examples/full4.col
+gives 2 'refused: ' other_shell examples/refused.col
+gives 1 'no such file' other_shell "$out/missing"
+# A shell that dies of too little memory is no refusal: from none to enough of it.
+starved() { (ulimit -v "$1" && ./layouts examples/full4.col) >/dev/null 2>&1 || echo "$?"; }
+for ((k = 2400; k <= 6000; k += 120)); do [[ $(starved "$k") != 2 ]] || fail "status 2 with $k kB of memory"; done
+passed
 
 # text_of BYTES: document 01's example after a comment that makes it so long
 text_of() { printf 'c %0*d\n' $(($1 - 20)) 0 && document; }
@@ -83,60 +103,93 @@ gives 0 '' elsewhere
 linked() { ln -sf "$PWD/layouts" "$out/linked" && "$out/linked" <examples/full4.col; }
 gives 0 '' linked
 
-# ---- output that cannot be written, or is not read to its end ----
-full() { ./layouts examples/triangle.col >/dev/full; }
-gives 1 'could not be written' full
+# ---- descriptors that are closed, full, not read to their end, or do not wait ----
+full() { ./layouts "$1" >/dev/full; }
+gives 1 'could not be written' full examples/triangle.col
+gives 1 'could not be written' full examples/refused.col
 closed_output() { ./layouts examples/triangle.col >&-; }
-gives 1 'could not be written' closed_output
-program_full() { target/bin/layouts <examples/triangle.col >/dev/full; }
+gives 1 'standard output is closed' closed_output
+all_closed() { ./layouts examples/triangle.col <&- >&- 2>&-; }
+gives 1 '' all_closed
+program_full() { target/bin/layouts <examples/triangle.col >/dev/full 3>"$out/told"; }
 gives 0 . program_full
+[[ ! -s $out/told ]] || fail 'something is told of an output that was not taken'
+silent_refusal() { ./layouts examples/refused.col 2>&-; }
+gives 2 '' silent_refusal
+full_refusal() { ./layouts examples/refused.col 2>/dev/full; }
+gives 2 '' full_refusal
+broken_refusal() { # nobody reads the words
+    { env --default-signal=PIPE ./layouts examples/refused.col 2>&1 >/dev/null || echo "$?" >"$out/status"; } | :
+    return "$(cat "$out/status")"
+}
+gives 2 '' broken_refusal
 appended() { echo before && ./layouts examples/full4.col; }
 echo first >"$out/file" && appended >>"$out/file"
 [[ $(cut -d ' ' -f 1 "$out/file" | tr '\n' ' ') == 'first before vars points ' ]] || fail 'output that is appended'
 passed
-printf 'p edge 9 1\ne 1 2\n' >"$out/text" # more lines than a pipe holds
-head_only() { # with SIGPIPE as a planner's shell has it, whoever runs this test
-    # shellcheck disable=SC2016
-    env --default-signal=PIPE bash -c './layouts "$0" | head -n 1; exit "${PIPESTATUS[0]}"' "$out/text"
-}
-gives 1 '' head_only
-[[ $(cat "$out/stdout") == 'vars 9 eqs 1' ]] || fail 'the head of the output'
+${CC:-cc} -std=c99 -D_DEFAULT_SOURCE -Wall -Wextra -Werror tests/slow-reader.c -o "$out/slow-reader"
+printf 'p edge 13 1\ne 1 2\n' >"$out/long" # more lines than a pipe holds
+./layouts "$out/long" >"$out/whole" || fail 'a long list'
+[[ $(tail -n 1 "$out/whole") == 'points 1594323 additions 3188631 found 1062882 ended' ]] || fail 'a long list'
+slow() { "$out/slow-reader" "$@" ./layouts "$out/long"; } # BYTES (0: all of them) SIGPIPE-ignored
+for ignored in 0 1; do
+    gives 0 '' slow 0 "$ignored" # a pipe that does not wait, read slowly
+    cmp "$out/stdout" "$out/whole" || fail 'a pipe that does not wait: another output'
+    words=''
+    ((ignored == 0)) || words='could not be written'
+    for bytes in 1 13 5000 1000000; do gives 1 "$words" slow "$bytes" "$ignored"; done # closed after so many bytes
+done
 
-# ---- progress: on a terminal alone, on standard error alone, and gone at the end ----
+# ---- progress: on a terminal alone, on standard error alone, and gone before anything else is written ----
 printf 'p edge 16 6\ne 1 2\ne 1 3\ne 1 4\ne 2 3\ne 2 4\ne 3 4\n' >"$out/text"
 on_terminal() { # standard error is a terminal, whose contents are kept
-    command script -qec "target/bin/layouts <'$out/text' >'$out/written'" /dev/null </dev/null >"$out/terminal"
+    command script -qec "./layouts '$out/text' >'$out/written'" /dev/null </dev/null >"$out/terminal"
 }
 gives 0 '' on_terminal
 [[ $(cat "$out/terminal") == $'\rpoints 43046721 of 43046721 found 0\r\e[K' ]] || fail "progress: $(cat -v "$out/terminal")"
 [[ $(cat "$out/written") == $'vars 16 eqs 6\npoints 43046721 additions 86093424 found 0 ended' ]] || fail 'the output beside progress'
 target/bin/layouts <"$out/text" 2>"$out/stderr" >"$out/stdout"
 [[ ! -s $out/stderr ]] || fail 'progress without a terminal'
+in_pipe() { command script -qec "./layouts '$out/text' | cat" /dev/null </dev/null >"$out/terminal"; }
+gives 0 '' in_pipe # whoever reads the pipe may write on the terminal, too
+! grep -q 'of 43046721' "$out/terminal" || fail 'progress beside a pipe'
+# 18 vertices in six layouts, far apart
+{ echo p edge 18 33; printf 'e %d %d\n' 1 2 1 3 2 3; for ((k = 4; k <= 18; k++)); do printf 'e %d %d\n' $((k - 2)) "$k" $((k - 1)) "$k"; done; } >"$out/text"
+both_on_terminal() { command script -qec "./layouts '$out/text'" /dev/null </dev/null >"$out/terminal"; }
+gives 0 '' both_on_terminal
+./layouts "$out/text" >"$out/stdout" || fail 'six layouts'
+# what stays on the terminal once "back to the start of the line and clear it" is obeyed; progress overwrites progress alone
+
+sed 's/\r\x1b\[K/\n/g; s/\r$//' "$out/terminal" | tr '\r' '\n' >"$out/seen"
+grep -q '^points [0-9]* of 387420489 found [0-9]*$' "$out/seen" || fail 'no progress on a terminal'
+grep -v -e '^points [0-9]* of 387420489 found [0-9]*$' -e '^$' "$out/seen" | cmp - "$out/stdout" || fail "progress and layouts share a line: $(cat -v "$out/terminal")"
 passed
 
 # ---- the script with other programs, in a copy: what did not end must not look ended ----
 copy=$out/copy
 mkdir -p "$copy/target/bin" "$copy/crates/layouts/src" "$copy/path"
-cp layouts "$copy"
-ended='points 9 additions 14 found 6 ended'
+cp -r layouts commands "$copy"
+printf 'base:\nlayouts: base io\nother: base\n' >"$copy/crates.txt"
 # with_program STATUS WORDS LINES: a program that is these lines of shell
 with_program() {
     printf '#!/bin/sh\n%s\n' "$3" >"$copy/target/bin/layouts"
     chmod +x "$copy/target/bin/layouts"
     gives "$1" "$2" "$copy/layouts" examples/triangle.col
 }
-with_program 0 '' "echo vars; echo '$ended'"
-with_program 1 'did not end' "echo '$ended'; echo more"
-with_program 1 'did not end' "printf '$ended'"
-with_program 1 'did not end' "echo 'x $ended'"
-with_program 1 'did not end' "echo '$ended '"
-with_program 1 'did not end' 'echo points 9 additions 14 found 6 spent'
-with_program 1 'did not end' 'echo refused 13'
+with_program 0 '' 'echo vars; echo ended >&3'
+with_program 1 'did not end' 'echo points 9 additions 14 found 6 ended'
+with_program 1 'did not end' 'printf ended >&3'
+with_program 1 'did not end' 'echo ended more >&3'
+with_program 1 'did not end' 'echo >&3; echo ended >&3'
+with_program 1 'did not end' 'echo spent >&3'
+with_program 1 'did not end' 'echo refused 13 >&3'
 with_program 1 'did not end' ''
-with_program 1 'status 3' "echo '$ended'; exit 3"
-with_program 1 'signal 9' "echo '$ended'; kill -9 \$\$"
+with_program 1 'did not end' 'exit 2'
+with_program 1 'signal 9' 'echo vars; kill -9 $$'
+with_program 1 'signal 11' 'echo vars; kill -SEGV $$'
+with_program 1 'did not end' 'exec 3>&-; sleep 0.1; echo vars'
 while IFS='|' read -r number line words; do
-    with_program 2 "^layouts: refused: $words ($number)$" "echo refused $number line $line"
+    with_program 2 "^layouts: refused: $words ($number)$" "echo refused $number line $line >&3"
 done <<'END'
 10|7|line 7: no known kind of line; .*
 11|0|there is no p line
@@ -148,30 +201,50 @@ done <<'END'
 15|0|the text is longer than 32,768 bytes
 END
 
-# Killed itself, it takes the program with it, leaves nothing behind and does not look ended.
-cat >"$copy/target/bin/layouts" <<'END'
-#!/bin/sh
-echo $$
-for k in $(seq 100); do sleep 0.1; echo more; done
-END
-until_true() { local turn; for ((turn = 0; turn < 100; turn++)); do ! "$@" || return 0; sleep 0.05; done; return 1; }
-begun() { [[ -s $out/part ]]; }
-gone() { ! kill -0 "$(head -n 1 "$out/part")" 2>/dev/null; }
+# ---- signals at random moments: to the script, and to the program ----
+until_true() { local turn; for ((turn = 0; turn < 200; turn++)); do ! "$@" || return 0; sleep 0.02; done; return 1; }
+gone() { ! kill -0 "$1" 2>/dev/null; }
+clean() { [[ -z $(ls "$TMPDIR") && -z $(find /tmp -maxdepth 1 -name 'vayudrit.*' -newer "$out/began") ]] || fail "left behind: $(ls "$TMPDIR" /tmp)"; }
+printf 'p edge 20 6\ne 1 2\ne 1 3\ne 1 4\ne 2 3\ne 2 4\ne 3 4\n' >"$out/silent" # seconds without a line
+: >"$out/began"
+moment() { sleep "0.$((RANDOM % 4))$((RANDOM % 10))"; }
+RANDOM=$seed
+# killed SIGNAL WHOM: during a silent search
 killed() {
-    env --default-signal=PIPE "$copy/layouts" examples/triangle.col >"$out/part" &
-    until_true begun
-    kill "$!"
-    wait "$!"
+    local script program whom
+    env --default-signal=HUP,INT,TERM ./layouts "$out/silent" >"$out/part" 2>/dev/null &
+    script=$!
+    moment
+    program=$(pgrep -P "$script" || true)
+    whom=$script
+    [[ $2 != program || -z $program ]] || whom=$program
+    kill "-$1" "$whom"
+    wait "$script" && return
+    set -- "$?"
+    [[ -z $program ]] || until_true gone "$program" || fail 'the program runs on'
+    return "$1"
 }
-gives 143 '' killed
-until_true gone || fail 'the program runs on'
-[[ -z $(ls "$TMPDIR") ]] || fail "left behind: $(ls "$TMPDIR")"
+for turn in 1 2 3; do
+    for signal in HUP/129 INT/130 TERM/143; do gives "${signal#*/}" '' killed "${signal%/*}" script; done
+    status=$(status_of killed KILL program)
+    ((status == 1 || status == 137)) || fail "a killed program: status $status"
+    cp "$out/part" "$out/before"
+    sleep 0.1
+    cmp "$out/part" "$out/before" || fail 'something is written afterwards'
+    passed
+done
+clean
 
-# ---- the script builds what is missing or older than its sources, and nothing else ----
+# ---- the build: what is missing or older than its sources and nothing else, once, and it ends with the script ----
 cat >"$copy/path/rt" <<'END'
 #!/bin/sh
-echo "rt $*" && cat && [ ! -e fail ] || exit 1
-printf '#!/bin/sh\necho %s\n' "'points 1 additions 0 found 0 ended'" >target/bin/layouts
+[ "$1" = check ] || exit 2
+echo "rt $*" >>built && cat
+[ ! -e fail ] || { echo the reason; exit 1; }
+echo $$ >running && sh -c 'echo $$ >>running; exec sleep "$0"' "$(cat slow 2>/dev/null || echo 0)"
+mktemp >/dev/null
+echo 'rt: base proved (1 s)'
+printf '#!/bin/sh\necho %s; echo ended >&3\n' "'points 1 additions 0 found 0 ended'" >target/bin/layouts
 chmod +x target/bin/layouts
 END
 chmod +x "$copy/path/rt"
@@ -179,19 +252,55 @@ with_rt() { PATH=$copy/path:$PATH "$copy/layouts" <examples/triangle.col; }
 mkdir "$out/tools"
 for tool in bash dirname readlink mktemp find rm cat; do ln -s "$(command -v "$tool")" "$out/tools"; done
 without_rt() { PATH=$out/tools "$copy/layouts" <examples/triangle.col; }
+times_built() { [[ $(wc -l <"$copy/built") -eq $1 ]] || fail "built $(wc -l <"$copy/built") times and not $1: $2"; }
 rm "$copy/target/bin/layouts"
 gives 1 "'rt', which builds it, is not on the path" without_rt
-gives 0 'rt check layouts' with_rt
+gives 0 'proves its 2 crates first' with_rt
+[[ $(wc -l <"$out/stderr") -eq 1 ]] || fail "a build says more than a line: $(cat "$out/stderr")"
 [[ $(cat "$out/stdout") == 'points 1 additions 0 found 0 ended' ]] || fail "the build's output came through"
 gives 0 '' with_rt
+times_built 1 'nothing is newer'
 touch -d '+1 hour' "$copy/crates/layouts/src/main.rt"
 gives 1 'older than its sources' without_rt
 touch "$copy/fail"
-gives 1 "'rt check layouts' failed" with_rt
+gives 1 "'rt check layouts' failed; the log is .*/target/commands/layouts.log" with_rt
+grep -q 'the reason' "$copy/target/commands/layouts.log" || fail 'the log of a failed build'
 rm "$copy/fail"
 gives 0 'building' with_rt
+times_built 3 'the sources are newer'
 touch -d '-1 hour' "$copy/crates/layouts/src"{/main.rt,}
 gives 0 '' with_rt
+times_built 3 'nothing is newer'
+
+# Two at once: one builds, the other waits for it.
+rm "$copy/target/bin/layouts" "$copy/running" && echo 1 >"$copy/slow"
+with_rt >"$out/one" 2>"$out/words" &
+until_true test -s "$copy/running"
+gives 0 'another command is building' with_rt
+wait "$!" || fail 'the first of two builds'
+cmp "$out/one" "$out/stdout" || fail 'two builds at once'
+times_built 4 'two builds at once'
+
+# A signal during a build ends it with all its processes, and leaves nothing in the temporary folder.
+killed_build() {
+    rm -f "$copy/target/bin/layouts" "$copy/running" && echo 30 >"$copy/slow"
+    PATH=$copy/path:$PATH env --default-signal=HUP,INT,TERM "$copy/layouts" <examples/triangle.col >"$out/part" 2>/dev/null &
+    two_run() { [[ $(wc -l 2>/dev/null <"$copy/running") -eq 2 ]]; }
+    until_true two_run
+    kill "-$1" "$!"
+    wait "$!"
+}
+for signal in HUP/129 INT/130 TERM/143; do
+    gives "${signal#*/}" '' killed_build "${signal%/*}"
+    for process in $(cat "$copy/running"); do gone "$process" || fail 'a process of the build runs on'; done
+    [[ ! -s $out/part && ! -e $copy/target/bin/layouts ]] || fail 'something is written after the signal'
+    clean
+done
+rm "$copy/slow"
+gives 0 'building' with_rt # the lock is free again
+on_a_terminal() { rm "$copy/target/bin/layouts" && PATH=$copy/path:$PATH command script -qec "$copy/layouts examples/triangle.col" /dev/null </dev/null >"$out/terminal"; }
+gives 0 '' on_a_terminal
+grep -q 'crate 0 of 2, 0 s so far' "$out/terminal" || fail "the line of a build: $(cat -v "$out/terminal")"
 
 # ---- many texts: the program against the second program ----
 compile() { ${CC:-cc} -std=c99 -Wall -Wextra -Werror "$@"; }
