@@ -7,7 +7,7 @@ use borrow.Author.Needs.{needs}
 use Rattle.walk.specs.Parts.{headed}
 use Rattle.walk.specs.Run.{stateOf, product}
 use Rattle.walk.proofs.MoveLaw.{step-note}
-use Rattle.walk.proofs.WalkedLaw.{Walked, held, walked-none, walked-one, goes-on, goes-no-more}
+use Rattle.walk.proofs.WalkedLaw.{Walked, stateBy, walked-none, walked-one, goes-on, goes-no-more}
 use Rattle.walk.proofs.steps.steps.Statement.{statement}
 use Rattle.walk.proofs.steps.steps.Tie as tie
 use Rattle.walk.proofs.steps.steps.Reads as reads
@@ -19,7 +19,7 @@ use Rattle.walk.proofs.steps.going.Reads as going-reads
 
 abbrev Inv-loop : tie.InvT-loop
 Inv-loop table n end budget list₀ len slots₀ value₀ place₀ additions₀ found₀ left₀ list slots value place additions found left =
-    (len ≡ length list₀) × Walked table n end budget left (held place₀ value₀ slots₀ additions₀ found₀ list₀) (held place value slots additions found list)
+    (len ≡ length list₀) × Walked table n end budget left (stateBy place₀ value₀ slots₀ additions₀ found₀ list₀) (stateBy place value slots additions found list)
 
 abbrev μ-loop : tie.MeasureT-loop
 μ-loop table n end budget list₀ len slots₀ value₀ place₀ additions₀ found₀ left₀ list slots value place additions found left = left
@@ -134,7 +134,7 @@ loop-again c =
     let a = s .args in
     let g = goes-on (a .table .now) (a .n) (a .end) (a .budget) (l .left) (length (a .list .now)) _ _ _ (s .pre .0) (l .inv .1) refl (c .before .before .before .before .before .before .before .before .before .before .going .ensures) (c .before .before .before .before .before .before .before .before .before .if1 .taken) in
     let w = l .inv .1 in
-    let st = held (l .place) (l .value) (l .slots) (l .additions) (l .found) (l .list) in
+    let st = stateBy (l .place) (l .value) (l .slots) (l .additions) (l .found) (l .list) in
     let v = c .before .before .before .before .before .before .before .before .split in
     let h = c .before .before .before .before .before .before .head in
     let m = c .before .before .mark in
