@@ -30,8 +30,9 @@ use Rattle.walks.specs.Calls.{Trail, pointsIn, costIn, zerosIn, stopAt, reportO
 use Rattle.walks.specs.declared.Report.{Report}
 use Rattle.walk.specs.declared.Ran.{Ran}
 use Rattle.walk.specs.declared.Walker.{Walker}
-use Rattle.walk.specs.Step.{State, walkOf}
-use Rattle.walk.specs.Run.{stateOf, fresh, product, haltOf, searchOf}
+use Rattle.moves.specs.Step.{State, walkOf}
+use Rattle.moves.specs.Moves.{product}
+use Rattle.walk.specs.Run.{stateOf, fresh, haltOf, searchOf}
 use Rattle.walk.specs.Meaning.{Stands, Tabled, Answers}
 use Rattle.walk.proofs.MeanLaw.{stands-value, stands-slot, opened-stands, differences-tabled}
 use Rattle.walk.proofs.CallLaw.{call-is}

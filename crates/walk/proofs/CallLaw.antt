@@ -21,11 +21,11 @@ use Rattle.held.specs.Held.{move}
 use Rattle.held.specs.Stands.{Rises, zeros}
 use Rattle.held.proofs.RiseLaw.{positions-rise}
 use Rattle.held.proofs.StandLaw as any
-use Rattle.walk.specs.Step.{State, push, lift, bump, moveOf, noteBy, walkOf, foundOf, listOf}
+use Rattle.moves.specs.Step.{State, push, lift, bump, moveOf, noteBy, walkOf, foundOf, listOf}
 use Rattle.walk.specs.Run.{haltOf}
 use Rattle.walk.specs.Meaning.{valuesOf, Stands, Tabled, trailOf, Answers}
-use Rattle.walk.proofs.MoveLaw.{two}
-use Rattle.walk.proofs.SearchLaw.{step-near}
+use Rattle.moves.proofs.MoveLaw.{two}
+use Rattle.moves.proofs.NearLaw.{step-near}
 use Rattle.walk.proofs.MeanLaw.{view, view-state, view-table, Room, view-move, room-move, holds-plus, holds-like}
 
 -- ---- all values 0 modulo 3, as a test and as a statement

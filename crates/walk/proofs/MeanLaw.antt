@@ -23,9 +23,9 @@ use Rattle.held.proofs.StandLaw.{held-value}
 use Rattle.held.proofs.ExactLaw.{pair-place}
 use Rattle.polynomials.specs.Poly.{Poly, valueOf, changeOf, tableOf}
 use Rattle.polynomials.proofs.QuadLaw.{slot-change, quad-is}
-use Rattle.walk.specs.Step.{State, push, lift, bump, moveOf}
+use Rattle.moves.specs.Step.{State, push, lift, bump, moveOf}
 use Rattle.walk.specs.Meaning.{heldBy, entryBy, Stands, Tabled}
-use Rattle.walk.proofs.MoveLaw.{two}
+use Rattle.moves.proofs.MoveLaw.{two}
 
 -- ---- state and table together
 unfoldable pub view : (ℕ → ℕ → Vector) → State → List ℕ → Vector

@@ -9,11 +9,12 @@ use lib.ListN.{length}
 use Rattle.trits.specs.declared.Vector.{Vector}
 use Rattle.walks.specs.Walk.{Walk, stepOf, iterate}
 use Rattle.gray.specs.Numbers.{pointOf}
-use Rattle.walk.specs.Step.{State, walkOf}
+use Rattle.moves.specs.Step.{State, walkOf}
 use Rattle.gray.specs.Positions.{lowestOf}
-use Rattle.walk.specs.Run.{product, searchOf, Sized}
-use Rattle.walk.proofs.MoveLaw.{end-small, first-lt}
-use Rattle.walk.proofs.SearchLaw.{iterate-near, counts, near}
+use Rattle.moves.specs.Moves.{product, Sized}
+use Rattle.walk.specs.Run.{searchOf}
+use Rattle.moves.proofs.MoveLaw.{end-small, first-lt}
+use Rattle.moves.proofs.NearLaw.{iterate-near, counts, near}
 use Rattle.walks.proofs.WalkedLaw as law
 
 -- a state from what the code holds of it
