@@ -1,7 +1,7 @@
 -- Computed from the definitions: document 01's edge equation, and a cubic equation in two unknowns.
 use mathlib.Core.Path.{_≡_, refl}
 use mathlib.Core.List.{List, [], _∷_, map}
-use Prim.Native.Nat.{ℕ, zero, suc, _+_, _%_}
+use Prim.Native.Nat.{ℕ, zero, suc, _%_}
 use Rattle.residues.specs.Sums.{sum, same}
 use Rattle.gray.specs.Numbers.{digit, pointDigit}
 use Rattle.positions.specs.Positions.{lowestIn, lowestOf, positionsIn, positions}

@@ -14,7 +14,7 @@ use Rattle.cubics.specs.Cubic.{Cubic, lowOf, cubesOf, cubicOf}
 use Rattle.held.proofs.HeldLaw.{begins-append}
 use Rattle.held.proofs.StemLaw.{root}
 use Rattle.held.proofs.FlatLaw.{Fun, Flat, Ext, flat-le}
-use Rattle.polynomials.proofs.DegreeTwoLaw.{flat-value, ext-value}
+use Rattle.polynomials.proofs.TermsLaw.{flat-value, ext-value}
 use Rattle.held.proofs.ConstantLaw.{nowhere, flat-deltas, entry-is}
 use Rattle.polynomials.proofs.QuadLaw.{lin-is, quad-is}
 
@@ -73,7 +73,7 @@ module _ (q : ℕ) (two : 1 < q) where
 
     pub cubic-quad : (b c p : ℕ) (ps : List ℕ) → suc p < q ^ n → b < n → positions q (suc p) ≡ b ∷ c ∷ ps
         → Cong q (entry q (along q (cubicOf f n)) (b ∷ c ∷ [])) (tableOf q (lowOf f) .quad b c + entry q (along q (cubesOf f n)) (b ∷ c ∷ []))
-    cubic-quad b c p ps l m e = cof (part (b ∷ c ∷ [])) ⨾ cadd (quad-is q two (lowOf f) n b c p ps l m e) (crefl _)
+    cubic-quad b c p ps l m e = cof (part (b ∷ c ∷ [])) ⨾ cadd (quad-is q two (lowOf f) n b c (suc p) ps l e) (crefl _)
 
     pub cubic-cube : (b c d p : ℕ) (ps : List ℕ) → positions q p ≡ b ∷ c ∷ d ∷ ps
         → Cong q (entry q (along q (cubicOf f n)) (b ∷ c ∷ d ∷ [])) (entry q (along q (cubesOf f n)) (b ∷ c ∷ d ∷ []))

@@ -5,7 +5,6 @@ use mathlib.Core.List.{List, [], _∷_}
 use Prim.Native.Nat.{ℕ, zero, suc, _+_, _-_, _*_, _^_, _<_, _≤_}
 use native.Mathlib.Decide.{ℕ-discrete}
 use native.Mathlib.Omega.{arith}
-use Rattle.residues.specs.Sums.{same}
 use Rattle.residues.proofs.ModLaw.{Cong, crefl, cof, csym, _⨾_, cdrop, cadd, cmul, cwhole, cancel}
 use Rattle.residues.proofs.SumLaw.{same-self, same-other, sum-cong}
 use Rattle.gray.specs.Numbers.{pointDigit}

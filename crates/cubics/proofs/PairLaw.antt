@@ -20,14 +20,14 @@ use Rattle.cubics.specs.Rows.{underOf, lineOf, singleOf, shiftOf, pairOf
 use Rattle.held.proofs.HeldLaw.{begins-append, begins-self}
 use Rattle.held.proofs.StemLaw.{Stem, root, grow, grow-at, one-run}
 use Rattle.held.proofs.PastLaw.{first-positions}
-use Rattle.held.proofs.ApartLaw.{dirOf, dir-self, dir-other}
+use Rattle.held.proofs.ApartLaw.{dirOf, dir-self, dir-other, one-dir}
 use Rattle.held.proofs.PointLaw.{allOf, point-is}
-use Rattle.held.proofs.FlatLaw.{plus, delta}
+use Rattle.held.proofs.FlatLaw.{plus, delta, delta-like}
 use Rattle.held.proofs.ConstantLaw.{deltas, way, change-at}
 use Rattle.cubics.proofs.CubicLaw.{ext-cubic}
 use Rattle.cubics.proofs.PolarLaw.{polar, bil-add, bil-scale, bil-less}
 use Rattle.cubics.proofs.ThirdLaw.{bil-turn, bil-unit}
-use Rattle.cubics.proofs.TripleLaw.{line-self, line-other, line-ext, under-ext, bil-under, bil-dir, one-dir, delta-like, first-at, line-two}
+use Rattle.cubics.proofs.TripleLaw.{line-self, line-other, line-ext, under-ext, bil-under, bil-dir, first-at, line-two}
 
 -- ---- sums along a direction
 sum-times : (n r : ℕ) (l u : ℕ → ℕ) → sum n (λ i. l i * (r * u i)) ≡ r * sum n (λ i. l i * u i)
@@ -142,7 +142,7 @@ module _ (q : ℕ) (two : 1 < q) (f : Cubic) (n half : ℕ) (halves : Cong q (2 
       ⨾ csym (cof (ap (λ (y : ℕ). pointDigit q (firstOf q (b ∷ c ∷ [])) k + y) (end (same (suc k) b) (same (suc k) c))) ⨾ point-is q two (b ∷ c ∷ []) (firstOf q (b ∷ c ∷ [])) o k ⨾ cof (sym (end (same k b) (same k c))))) in
       let T : ℕ → ℕ = λ i. bil h n (λ k. same k i) u in
       change-at q two (cubicOf f n) (ext-cubic q pos f n) (b ∷ c ∷ []) (firstOf q (b ∷ c ∷ [])) X i w
-      ⨾ delta-like q two f n (delta q (dirOf q root b) (cubicOf f n)) (eval h n) u (first-at q two f n b lb) X
+      ⨾ delta-like q pos (delta q (dirOf q root b) (cubicOf f n)) (eval h n) u (first-at q two f n b lb) X
       ⨾ delta-parts h q pos half halves n u X
       ⨾ cof (ap₂ (λ (y z : ℕ). y + half * z + bil h n X u)
       (sum-dir q n (grow q root b) c (h .lin) (rw (grow-at q root b) lb) lc ∙ ap₂ (λ (r a : ℕ). lineOf q r (h .lin) a c) (one-run q b) (grow-at q root b))

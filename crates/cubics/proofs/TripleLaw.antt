@@ -18,8 +18,8 @@ use Rattle.cubics.specs.Derived.{derived, bil}
 use Rattle.cubics.specs.Rows.{underOf, lineOf, timesOf, tripleOf}
 use Rattle.held.proofs.HeldLaw.{begins-append}
 use Rattle.held.proofs.StemLaw.{Stem, root, grow, grow-self, grow-other, grow-at, one-run}
-use Rattle.held.proofs.ApartLaw.{dirOf, dir-self, dir-other}
-use Rattle.held.proofs.FlatLaw.{Fun, plus, delta}
+use Rattle.held.proofs.ApartLaw.{dirOf, dir-self, dir-other, one-dir}
+use Rattle.held.proofs.FlatLaw.{Fun, plus, delta, delta-like}
 use Rattle.held.proofs.ConstantLaw.{nowhere, deltas, entry-is}
 use Rattle.cubics.proofs.CubicLaw.{flat-cubic, ext-cubic}
 use Rattle.cubics.proofs.CubicFormLaw.{eval3-is}
@@ -96,22 +96,9 @@ two-run q b c =
     ∙ rw (e, same-self b, timesOf))
     (λ e. ap (λ (t : Stem). t .run) (grow-other q (grow q root b) c (λ i. e (i ∙ grow-at q root b))) ∙ rw (same-other c b e, timesOf))
 
-pub one-dir : (q b k : ℕ) → dirOf q root b k ≡ same k b
-unfolding same
-one-dir q b k =
-    by-cases (ℕ-discrete b 0)
-    (λ (e : b ≡ 0). ap (λ (x : ℕ). dirOf q root x k) e ∙ dir-self q root k ∙ ap (λ (x : ℕ). same k 0 + x) (mul-zero (q - 1)) ∙ add-zero _ ∙ ap (same k) (sym e))
-    (λ e. dir-other q root b k e ∙ ring (same k 0) (same k b) (q - 1))
-  where
-    ring : (a b r : ℕ) → 0 * a + b + r * (1 * 0) ≡ b
-    ring a b r = omega arith
-
 module _ (q : ℕ) (two : 1 < q) (f : Cubic) (n : ℕ) where
   pos : 0 < q
   pos = omega arith
-
-  pub delta-like : (g h : Fun) (v : ℕ → ℕ) → ((x : ℕ → ℕ) → Cong q (g x) (h x)) → (x : ℕ → ℕ) → Cong q (delta q v g x) (delta q v h x)
-  delta-like g h v s x = cadd (s (plus x v)) (cmul (crefl (q - 1)) (s x))
 
   -- the first difference
   pub first-at : (b : ℕ) → b < n → (x : ℕ → ℕ) → Cong q (delta q (dirOf q root b) (cubicOf f n) x) (eval (derived f b) n x)
@@ -138,8 +125,8 @@ module _ (q : ℕ) (two : 1 < q) (f : Cubic) (n : ℕ) where
       let t : Stem = grow q s c in
       let h : Poly = derived f b in
       entry-is q two (cubicOf f n) (ext-cubic q pos f n) 3 (flat-cubic q pos f n) (b ∷ c ∷ d ∷ []) p refl g
-      ⨾ delta-like (delta q (dirOf q s c) (delta q (dirOf q root b) (cubicOf f n))) (delta q (dirOf q s c) (eval h n)) (dirOf q t d)
-      (delta-like (delta q (dirOf q root b) (cubicOf f n)) (eval h n) (dirOf q s c) (first-at b lb)) nowhere
+      ⨾ delta-like q pos (delta q (dirOf q s c) (delta q (dirOf q root b) (cubicOf f n))) (delta q (dirOf q s c) (eval h n)) (dirOf q t d)
+      (delta-like q pos (delta q (dirOf q root b) (cubicOf f n)) (eval h n) (dirOf q s c) (first-at b lb)) nowhere
       ⨾ second-is q pos h n (dirOf q s c) (dirOf q t d)
       ⨾ cof (bil-dir h q n t d (dirOf q s c)
       ∙ ap₂ (λ (r a : ℕ). lineOf q r (λ i. bil h n (λ k. same k i) (dirOf q s c)) a d) (two-run q b c) (grow-at q s c)

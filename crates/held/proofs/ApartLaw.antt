@@ -2,17 +2,17 @@
 use mathlib.Core.Path.{_≡_, sym, ap, ap₂, _∙_}
 use mathlib.Core.Logic.{by-cases}
 use Prim.Native.Nat.{ℕ, zero, suc, _+_, _-_, _*_, _/_, _%_, _^_, _<_}
-use native.Mathlib.Nat.{add-zero, zero-add, suc-add, pow-zero, pow-suc, pow-succ', mod-lt, div-add-mod, div-lt-iff-lt-mul}
+use native.Mathlib.Nat.{add-zero, zero-add, suc-add, mul-zero, pow-zero, pow-suc, pow-succ', mod-lt, div-add-mod, div-lt-iff-lt-mul}
 use native.Mathlib.Decide.{ℕ-discrete}
 use native.Mathlib.Omega.{arith}
 use Rattle.residues.specs.Sums.{same}
 use Rattle.residues.proofs.SumLaw.{same-self, same-other}
 use Rattle.residues.proofs.ModLaw.{Cong, crefl, cof, csym, _⨾_, cdrop, cadd, cwhole, cancel, cminus}
 use Rattle.gray.specs.Numbers.{pointDigit}
-use Rattle.positions.specs.Positions.{lowestOf, positions}
+use Rattle.positions.specs.Positions.{lowestOf}
 use Rattle.positions.proofs.LowestLaw.{of-zero, of-other}
 use Rattle.gray.proofs.GrayLaw.{div-of, mod-of, point-low, point-next, gray-step}
-use Rattle.held.proofs.StemLaw.{Stem, placeAt, Room}
+use Rattle.held.proofs.StemLaw.{Stem, root, grow, placeAt, Room, grow-at, one-run}
 use Rattle.held.proofs.PastLaw.{pastOf, past-near, past-far, below-room, at-least}
 
 -- the number y with b digits below it: those of low
@@ -34,6 +34,28 @@ dir-self q s k = rw (same-self (s .at), dirOf)
 pub dir-other : (q : ℕ) (s : Stem) (d k : ℕ) → (d ≡ s .at → ⊥) → dirOf q s d k ≡ s .run * same k (s .at) + same k d + (q - 1) * (suc (s .run) * same (suc k) (s .at))
 unfolding dirOf
 dir-other q s d k n = rw (same-other d (s .at) n, dirOf)
+
+-- of no position: b itself
+pub one-dir : (q b k : ℕ) → dirOf q root b k ≡ same k b
+unfolding same
+one-dir q b k =
+    by-cases (ℕ-discrete b 0)
+    (λ (e : b ≡ 0). ap (λ (x : ℕ). dirOf q root x k) e ∙ dir-self q root k ∙ ap (λ (x : ℕ). same k 0 + x) (mul-zero (q - 1)) ∙ add-zero _ ∙ ap (same k) (sym e))
+    (λ e. dir-other q root b k e ∙ ring (same k 0) (same k b) (q - 1))
+  where
+    ring : (a b r : ℕ) → 0 * a + b + r * (1 * 0) ≡ b
+    ring a b r = omega arith
+
+-- of b: e_b less the unknown before it, for b again; else e_b and e_c less twice the unknown before b
+pub same-dir : (q b k : ℕ) → dirOf q (grow q root b) b k ≡ same k b + (q - 1) * same (suc k) b
+same-dir q b k =
+    ap (λ (x : ℕ). dirOf q (grow q root b) x k) (sym (grow-at q root b)) ∙ dir-self q (grow q root b) k
+    ∙ ap (λ (x : ℕ). same k x + (q - 1) * same (suc k) x) (grow-at q root b)
+
+pub other-dir : (q b c k : ℕ) → (c ≡ b → ⊥) → dirOf q (grow q root b) c k ≡ 1 * same k b + same k c + (q - 1) * (2 * same (suc k) b)
+other-dir q b c k n =
+    dir-other q (grow q root b) c k (λ i. n (i ∙ grow-at q root b))
+    ∙ ap₂ (λ (r x : ℕ). r * same k x + same k c + (q - 1) * (suc r * same (suc k) x)) (one-run q b) (grow-at q root b)
 
 module _ (q : ℕ) (two : 1 < q) where
   pos : 0 < q

@@ -24,6 +24,9 @@ abbrev pub Ext : ℕ → Fun → Type 0
 Ext q h = (x y : ℕ → ℕ) → ((k : ℕ) → Cong q (x k) (y k)) → Cong q (h x) (h y)
 
 module _ (q : ℕ) (pos : 0 < q) where
+  pub delta-like : (g h : Fun) (v : ℕ → ℕ) → ((x : ℕ → ℕ) → Cong q (g x) (h x)) → (x : ℕ → ℕ) → Cong q (delta q v g x) (delta q v h x)
+  delta-like g h v s x = cadd (s (plus x v)) (cmul (crefl (q - 1)) (s x))
+
   pub flat-same : (k : ℕ) (h g : Fun) → ((x : ℕ → ℕ) → Cong q (h x) (g x)) → Flat q k h → Flat q k g
   flat-same zero h g e f = λ x. csym (e x) ⨾ f x
   flat-same (suc k) h g e f = λ v. flat-same k (delta q v h) (delta q v g) (λ x. cadd (e (plus x v)) (cmul (crefl (q - 1)) (e x))) (f v)

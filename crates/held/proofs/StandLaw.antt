@@ -1,5 +1,5 @@
 -- A walk that moves what its states hold keeps what they stand for, and a search over it is a call on the trail of its equations.
-use mathlib.Core.Path.{_≡_, refl, sym, ap, _∙_, subst}
+use mathlib.Core.Path.{_≡_, refl, sym, ap, _∙_}
 use mathlib.Core.Bool.{Bool, true, false}
 use mathlib.Core.Logic.{by-cases}
 use mathlib.Core.List.{List, []}
@@ -16,7 +16,7 @@ use Rattle.gray.specs.Numbers.{pointDigit, pointOf}
 use Rattle.positions.proofs.PositionLaw.{positions-none}
 use Rattle.walks.specs.Walk.{Walk, stepOf}
 use Rattle.walks.proofs.FollowLaw.{Counts, Follows}
-use Rattle.held.specs.Held.{latestOf, change, held, move, along}
+use Rattle.held.specs.Held.{change, held, move, along}
 use Rattle.held.specs.Stands.{Rises, Stands, Tabled, zeros, trailOf}
 use Rattle.held.proofs.FlatLaw.{Fun, Flat, Ext}
 use Rattle.held.proofs.KeepLaw.{move-none, move-leaf}

@@ -28,8 +28,9 @@ use Rattle.tables.proofs.IndexLaw.{index-lt}
 use Rattle.walks.specs.Calls.{pointsIn, reportOf, listAfter}
 use Rattle.walk.specs.declared.Ran.{Ran}
 use Rattle.walk.specs.declared.Walker.{Walker}
-use Rattle.walk.specs.Step.{State}
-use Rattle.walk.specs.Run.{stateOf, fresh, product, searchOf}
+use Rattle.moves.specs.Step.{State, walkOf}
+use Rattle.moves.specs.Moves.{product}
+use Rattle.walk.specs.Run.{stateOf, fresh, haltOf, searchOf}
 use Rattle.walk.specs.Meaning.{Stands, Tabled, Answers}
 use Rattle.walk.proofs.MeanLaw.{stands-value, stands-slot, opened-stands, differences-tabled}
 use Rattle.walk.proofs.CallLaw.{call-is}

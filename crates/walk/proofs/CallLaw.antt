@@ -2,7 +2,7 @@
 use mathlib.Core.Path.{_≡_, refl, sym, ap, subst, _∙_}
 use mathlib.Core.Bool.{Bool, true, false}
 use mathlib.Core.List.{List, [], _∷_}
-use Prim.Native.Nat.{ℕ, suc, _+_, _%_, _^_, _≤_, _<_, min}
+use Prim.Native.Nat.{ℕ, _+_, _%_, _^_, _≤_, _<_, min}
 use native.Mathlib.Nat.{min-eq-left}
 use native.Mathlib.Omega.{arith}
 use lib.ListN.{length}
@@ -13,7 +13,7 @@ use Rattle.trits.proofs.LegalLaw.{zero-test}
 use Rattle.positions.specs.Positions.{positions}
 use Rattle.gray.specs.Numbers.{pointOf}
 use Rattle.polynomials.specs.Poly.{Poly}
-use Rattle.polynomials.proofs.DegreeTwoLaw.{flat-value, ext-value}
+use Rattle.polynomials.proofs.TermsLaw.{flat-value, ext-value}
 use Rattle.walks.specs.Walk.{stepOf, runOf}
 use Rattle.walks.specs.Calls.{Trail}
 use Rattle.walks.proofs.FollowLaw.{Counts, Follows, answers}
@@ -21,11 +21,11 @@ use Rattle.held.specs.Held.{move}
 use Rattle.held.specs.Stands.{Rises, zeros}
 use Rattle.held.proofs.RiseLaw.{positions-rise}
 use Rattle.held.proofs.StandLaw as any
-use Rattle.walk.specs.Step.{State, push, lift, bump, moveOf, noteBy, walkOf, foundOf, listOf}
+use Rattle.moves.specs.Step.{State, push, lift, bump, moveOf, noteBy, walkOf, foundOf, listOf}
 use Rattle.walk.specs.Run.{haltOf}
-use Rattle.walk.specs.Meaning.{valuesOf, heldBy, entryBy, Stands, Tabled, trailOf, Answers}
-use Rattle.walk.proofs.MoveLaw.{two}
-use Rattle.walk.proofs.SearchLaw.{step-near}
+use Rattle.walk.specs.Meaning.{valuesOf, Stands, Tabled, trailOf, Answers}
+use Rattle.moves.proofs.MoveLaw.{two}
+use Rattle.moves.proofs.NearLaw.{step-near}
 use Rattle.walk.proofs.MeanLaw.{view, view-state, view-table, Room, view-move, room-move, holds-plus, holds-like}
 
 -- ---- all values 0 modulo 3, as a test and as a statement

@@ -8,7 +8,7 @@ use Rattle.gray.specs.Numbers.{digit, number, pointDigit, pointOf}
 use Rattle.tables.specs.Monomials.{rowStart, indexOf}
 use Rattle.tables.specs.Words.{entry}
 use Rattle.walks.specs.Walk.{stepOf, runOf}
-use Rattle.walk.specs.Step.{State, push, lift, bump, moveOf, noteBy}
+use Rattle.moves.specs.Step.{State, push, lift, bump, moveOf, noteBy}
 use Rattle.walk.specs.Run.{searchOf}
 
 -- its table of differences

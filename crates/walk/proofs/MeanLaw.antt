@@ -1,8 +1,8 @@
 -- The engine's move is the move of what its states hold, in degree 2; and what value, slots and table stand for, in document 01's words.
-use mathlib.Core.Path.{_≡_, refl, sym, ap, ap₂, _∙_}
+use mathlib.Core.Path.{_≡_, refl, sym, ap, _∙_}
 use mathlib.Core.List.{List, [], _∷_}
 use mathlib.Core.Logic.{by-cases}
-use Prim.Native.Nat.{ℕ, suc, _+_, _-_, _%_, _^_, _<_, _≤_}
+use Prim.Native.Nat.{ℕ, suc, _+_, _-_, _%_, _<_, _≤_}
 use native.Mathlib.Nat.{mod-mod}
 use native.Mathlib.Decide.{ℕ-discrete}
 use native.Mathlib.Omega.{arith}
@@ -16,16 +16,16 @@ use Rattle.trits.proofs.SumLaw.{meets}
 use Rattle.trits.proofs.HoldLaw.{holds-is, is-holds, holds-ext, holds-add}
 use Rattle.positions.specs.Positions.{latest}
 use Rattle.gray.specs.Numbers.{pointDigit}
-use Rattle.held.specs.Held.{held, entry, move, along}
+use Rattle.held.specs.Held.{held, move, along}
 use Rattle.held.specs.Stands.{Rises}
 use Rattle.held.proofs.KeepLaw.{move-self, move-other, move-leaf}
 use Rattle.held.proofs.StandLaw.{held-value}
 use Rattle.held.proofs.ExactLaw.{pair-place}
 use Rattle.polynomials.specs.Poly.{Poly, valueOf, changeOf, tableOf}
 use Rattle.polynomials.proofs.QuadLaw.{slot-change, quad-is}
-use Rattle.walk.specs.Step.{State, push, lift, bump, moveOf}
-use Rattle.walk.specs.Meaning.{valuesOf, heldBy, entryBy, Stands, Tabled}
-use Rattle.walk.proofs.MoveLaw.{two}
+use Rattle.moves.specs.Step.{State, push, lift, bump, moveOf}
+use Rattle.walk.specs.Meaning.{heldBy, entryBy, Stands, Tabled}
+use Rattle.moves.proofs.MoveLaw.{two}
 
 -- ---- state and table together
 unfoldable pub view : (ℕ → ℕ → Vector) → State → List ℕ → Vector
@@ -136,6 +136,6 @@ differences-tabled F n m T legal each (b ∷ c ∷ []) l r =
     let p = pair-place 3 two (omega arith) b c n o k in
     record {
       legal = legal b c o k;
-      each = λ e i. each e b c i o k ∙ sym (quad-is 3 two (F e) n b c (p .0) [] (p .1) (r .1) (p .2) .same);
+      each = λ e i. each e b c i o k ∙ sym (quad-is 3 two (F e) n b c (suc (p .0)) [] (p .1) (p .2) .same);
     }
 differences-tabled F n m T legal each (b ∷ c ∷ d ∷ L) l r = absurd (omega arith)

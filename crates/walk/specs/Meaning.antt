@@ -8,7 +8,7 @@ use Rattle.trits.specs.Trit.{Holds, none}
 use Rattle.polynomials.specs.Poly.{Poly, valueOf}
 use Rattle.walks.specs.Calls.{Trail, reportOf, stopAt, listAfter}
 use Rattle.held.specs.Stands as any
-use Rattle.walk.specs.Step.{State}
+use Rattle.moves.specs.Step.{State}
 
 -- a system of equations of n unknowns, as functions of points
 abbrev pub valuesOf : (ℕ → Poly) → ℕ → ℕ → (ℕ → ℕ) → ℕ

@@ -8,3 +8,5 @@ pub mod CostLaw
 pub mod HaltLaw
 pub mod FollowLaw
 pub mod RunsLaw
+pub mod SearchLaw
+pub mod WalkedLaw
