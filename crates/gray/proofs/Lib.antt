@@ -6,6 +6,7 @@ pub mod PartLaw
 pub mod DigitLaw
 pub mod MapLaw
 pub mod TurnLaw
+pub mod RestLaw
 pub mod AnswerLaw
 pub mod SignLaw
 pub mod BalancedLaw

@@ -3,11 +3,13 @@
 use refusals::Refusal;
 
 mod balanced;
+mod digits;
 mod map;
 mod positions;
 
 pub use balanced::from_balanced;
 pub use balanced::to_balanced;
+pub use digits::digits_at;
 pub use map::place_at;
 pub use map::place_of;
 pub use map::point_at;

@@ -14,6 +14,7 @@ pub use evaluation::digits;
 pub use evaluation::evaluate;
 pub use evaluation::value_at;
 pub use formulas::coefficients;
+pub use formulas::coefficients_into;
 pub use formulas::differences;
 pub use monomials::entry;
 pub use monomials::index;
