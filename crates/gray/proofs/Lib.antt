@@ -3,5 +3,6 @@ pub mod LatestLaw
 pub mod DigitLaw
 pub mod MapLaw
 pub mod TurnLaw
+pub mod RestLaw
 pub mod AnswerLaw
 pub mod Cases

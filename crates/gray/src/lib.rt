@@ -2,8 +2,10 @@
 // Contracts cite specs/Numbers (digits and the map) and Answers (refusals).
 use refusals::Refusal;
 
+mod digits;
 mod map;
 
+pub use digits::digits_at;
 pub use map::convertible;
 pub use map::place_at;
 pub use map::place_of;

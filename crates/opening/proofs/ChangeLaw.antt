@@ -6,6 +6,7 @@ use native.Mathlib.Nat.{mod-eq-of-lt}
 use native.Mathlib.Numerals.{add-one}
 use native.Mathlib.Omega.{arith}
 use Rattle.residues.specs.Sums.{sum}
+use Rattle.residues.proofs.SumLaw.{sum-ext, sum-zero}
 use Rattle.trits.specs.declared.Vector.{Vector}
 use Rattle.trits.specs.Trit.{trit, Legal, Holds, none}
 use Rattle.trits.specs.Words.{Added, Scaled}
@@ -65,15 +66,20 @@ module _ (n m : ℕ) (c : List ℕ) (w : Table n m c) where
   pub Sofar : ℕ → (ℕ → ℕ) → ℕ → Vector → Type 0
   Sofar b p i v = Holds m (λ e. polyAt n c e .lin b + polyAt n c e .quad b b + sum i (λ k. slope (polyAt n c e) b k * p k)) v
 
-  pub sofar-none : (b : ℕ) (p : ℕ → ℕ) → b < n → {x y v : Vector} → x ≡ entry c (1 + b) → y ≡ entry c (indexOf n b b) → Added x y v → Sofar b p 0 v
-  unfolding Sofar sum
-  sofar-none b p h {x} {y} {v} ex ey a =
+  -- it begins at an unknown before which all steps are 0
+  pub sofar-none : (b i : ℕ) (p : ℕ → ℕ) → b < n → {x y v : Vector} → x ≡ entry c (1 + b) → y ≡ entry c (indexOf n b b) → Added x y v
+      → ((k : ℕ) → k < i → p k ≡ 0) → Sofar b p i v
+  unfolding Sofar
+  sofar-none b i p h {x} {y} {v} ex ey a z =
       let hx : Holds m (λ e. polyAt n c e .lin b) x = rw ex (lin-holds b h) in
       let hy : Holds m (λ e. polyAt n c e .quad b b) y = rw ey (quad-holds b b (omega arith) h) in
-      holds-ext (λ e l. ap (λ (z : ℕ). z % 3) (plain (polyAt n c e .lin b + polyAt n c e .quad b b))) (holds-add a hx hy)
+      holds-ext (λ e l. ap (λ (z : ℕ). z % 3) (plain (polyAt n c e .lin b + polyAt n c e .quad b b) _ (nothing (slope (polyAt n c e) b)))) (holds-add a hx hy)
     where
-      plain : (x : ℕ) → x ≡ x + 0
-      plain x = omega arith
+      plain : (x s : ℕ) → s ≡ 0 → x ≡ x + s
+      plain x s e = omega arith
+
+      nothing : (f : ℕ → ℕ) → sum i (λ k. f k * p k) ≡ 0
+      nothing f = sum-ext i (λ k. f k * p k) (λ k. f k * 0) (λ k l. ap (λ (u : ℕ). f k * u) (z k l)) ∙ sum-zero i f
 
   pub sofar-next : (b i t : ℕ) (p : ℕ → ℕ) {v s r : Vector} → t ≡ p i → Sofar b p i v → Holds m (λ e. slope (polyAt n c e) b i * t) s → Added v s r → Sofar b p (i + 1) r
   unfolding Sofar sum

@@ -9,9 +9,7 @@ use lib.Dec.{eqb, ltb}
 use lib.ListN.{length}
 use borrow.Author.Tests.{eqb-true, eq-eqb, ltb-false, not-false, le-ltb}
 use Rattle.refusals.specs.declared.Refusal.the-variants as refusal
-use Rattle.refusals.specs.declared.Verdict.{Verdict}
 use Rattle.refusals.specs.declared.Verdict.the-variants as verdict
-use Rattle.refusals.specs.Refusal.{after}
 use Rattle.refusals.proofs.RefusalLaw.{done-test, done-next, refuse-none, Within, sized-within, sized-next, sized-done}
 use Rattle.trits.specs.declared.Vector.{Vector}
 use Rattle.trits.specs.Trit.{ofTrits}
@@ -19,7 +17,7 @@ use Rattle.gray.specs.Numbers.{pointDigit}
 use Rattle.polynomials.specs.Poly.{valueOf}
 use Rattle.tables.specs.Monomials.{countOf}
 use Rattle.tables.specs.Words.{Table, legalFront, polyAt, coefficientsOf}
-use Rattle.tables.specs.Answers.{long, paired, checkedOf, copyVerdict, coefficientsAfter}
+use Rattle.tables.specs.Answers.{long, paired, checkedOf, copyVerdict}
 use Rattle.tables.proofs.WordLaw.{front-of, front-whole}
 use Rattle.tables.proofs.RoundLaw.{coefficients-table}
 use Rattle.opening.specs.Opened.{openedAt}
@@ -64,16 +62,13 @@ module _ (n m : ℕ) (t : List ℕ) (ok : checkedOf n m t ≡ verdict.Done) wher
   pub power-small : 3 ^ n ≤ 3 ^ 20
   power-small = power-le n (within .most)
 
-  -- the coefficients, written into room of their size
+  -- a copy of it into room of its size is not refused
   pub copy-done : (c : List ℕ) → length c ≡ 2 * countOf n → copyVerdict n m t c ≡ verdict.Done
   copy-done c e =
       sized-next n m (long n t (long n c (paired n m t verdict.Done))) within
       ∙ refuse-none wrong refusal.Length (long n c (paired n m t verdict.Done)) (ap not (eq-eqb _ _ table-long))
       ∙ refuse-none (not (eqb (length c) (2 * countOf n))) refusal.Length (paired n m t verdict.Done) (ap not (eq-eqb _ _ e))
       ∙ refuse-none bad refusal.Pair verdict.Done (le-ltb _ _ fronts)
-
-  pub coefficients-are : (c d : List ℕ) → length c ≡ 2 * countOf n → d ≡ coefficientsAfter n m t c → d ≡ coefficientsOf n m t
-  coefficients-are c d e h = h ∙ ap (λ (v : Verdict). after v c (coefficientsOf n m t)) (copy-done c e)
 
 -- the record, from its parts
 pub opened-is : (n m : ℕ) (t : List ℕ) (p : ℕ) (v : Vector) (s : List Vector) (x : ℕ → ℕ)

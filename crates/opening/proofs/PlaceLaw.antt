@@ -1,37 +1,20 @@
--- The digits of the point at a place, and the place just before an unknown's latest move, as the code finds them.
+-- The place just before an unknown's latest move, as the code finds it, and the digits of its point that are 0.
 use mathlib.Core.Path.{_≡_, sym, ap, _∙_}
 use mathlib.Core.Logic.{by-cases}
-use mathlib.Core.List.{List}
-use Prim.Native.Nat.{ℕ, suc, _+_, _-_, _*_, _/_, _%_, _^_, _≤_, _<_}
-use native.Mathlib.Nat.{div-div-eq-div-mul, pow-suc, div-mul-le-self, mul-le-mul-left}
+use Prim.Native.Nat.{ℕ, zero, suc, _+_, _-_, _*_, _/_, _%_, _^_, _≤_, _<_}
+use native.Mathlib.Nat.{zero-add, div-mul-le-self, mul-le-mul-left}
 use native.Mathlib.Numerals.{add-one}
 use native.Mathlib.Decide.{ℕ-discrete}
 use native.Mathlib.Omega.{arith}
-use lib.ListN.{length, getD, set}
-use lib.Seq.{getD-set-same, getD-set-other}
-use Rattle.gray.specs.Numbers.{digit, pointDigit}
+use Rattle.gray.specs.Numbers.{pointDigit}
 use Rattle.positions.specs.Positions.{latest, before, lastOf}
 use Rattle.gray.proofs.LatestLaw.{before-is, latest-is, last-zero, last-other}
+use Rattle.gray.proofs.GrayLaw.{point-next, before-part, before-low, low-is}
+use Rattle.gray.proofs.MapLaw.{point-digit-lt}
+use Rattle.residues.proofs.ModLaw.{Cong, cof, csym, _⨾_, csmall, cancel}
 
 pub two : 1 < 3
 two = omega arith
-
--- what is left after one more digit
-pub rest-next : (p k : ℕ) → p / 3 ^ k / 3 ≡ p / 3 ^ (k + 1)
-rest-next p k = div-div-eq-div-mul p (3 ^ k) 3 ∙ ap (λ (x : ℕ). p / x) (sym (pow-suc 3 k) ∙ ap (λ (x : ℕ). 3 ^ x) (sym (add-one k)))
-
--- a digit of the point, from what is left of the place
-pub digit-here : (p k : ℕ) → (p / 3 ^ k % 3 + 3 - p / 3 ^ k / 3 % 3) % 3 ≡ pointDigit 3 p k
-unfolding pointDigit digit
-digit-here p k = ap (λ (x : ℕ). (p / 3 ^ k % 3 + 3 - x % 3) % 3) (rest-next p k)
-
--- one more digit stored
-pub stored : (d : List ℕ) (f : ℕ → ℕ) (k v : ℕ) → k < length d → v ≡ f k → ((j : ℕ) → j < k → getD d j 0 ≡ f j)
-    → (j : ℕ) → j < k + 1 → getD (set d k v) j 0 ≡ f j
-stored d f k v l e h j m =
-    by-cases (ℕ-discrete j k)
-    (λ (s : j ≡ k). rw s (getD-set-same d k v 0 l ∙ e))
-    (λ n. getD-set-other d k j v 0 n ∙ h j (omega arith))
 
 -- the move of b that is numbered y, and the place before it
 pub before-place : (b q : ℕ) → 3 ^ b * (lastOf 3 (q / 3 ^ b) + 1) - 1 ≡ latest 3 b q - 1
@@ -51,3 +34,18 @@ pub before-small : (w q : ℕ) → 0 < w → w * (lastOf 3 (q / w) + 1) ≤ q + 
 before-small w q h =
     let l = mul-le-mul-left w (last-le (q / w)) in
     omega (arith, div-mul-le-self q w)
+
+-- just before a move of b the digits of the point below the one before b are 0
+pub low-none : (q : ℕ) → 1 < q → (b y k : ℕ) → suc k < b → pointDigit q (before q b y) k ≡ 0
+low-none q two zero y k h = absurd (omega arith)
+low-none q two (suc zero) y k h = absurd (omega arith)
+low-none q two (suc (suc b)) y zero h =
+    let z : 0 < q = omega arith in
+    let x = before q (suc b) y in
+    let e : Cong q (pointDigit q (before q (suc (suc b)) y) 0 + x) (0 + x) = low-is q two (suc b) y ⨾ csym (before-low q two b y) ⨾ cof (sym (zero-add x)) in
+    csmall (point-digit-lt q two (before q (suc (suc b)) y) 0) z (cancel z x e)
+low-none q two (suc (suc b)) y (suc k) h =
+    point-next q two (before q (suc (suc b)) y) k ∙ ap (λ (x : ℕ). pointDigit q x k) (before-part q two (suc b) y) ∙ low-none q two (suc b) y k (omega arith)
+
+pub latest-none : (b q k : ℕ) → k < b - 1 → pointDigit 3 (latest 3 b q - 1) k ≡ 0
+latest-none b q k h = ap (λ (x : ℕ). pointDigit 3 x k) (latest-is 3 two b q) ∙ low-none 3 two b (lastOf 3 (q / 3 ^ b)) k (omega arith)

@@ -5,7 +5,8 @@ use refusals::Refusal;
 use refusals::Verdict;
 use trits::Vector;
 ghost use mathlib.Core.Path.{_≡_};
-ghost use Rattle.opening.specs.Opened.{openOf, refusedOpen, noRecord};
+ghost use Rattle.opening.specs.Opened.{openVerdict, openOf, refusedOpen, noRecord};
+ghost use Rattle.refusals.specs.Refusal.{codeOf};
 ghost use Rattle.refusals.specs.declared.Verdict.the-variants.{Done};
 ghost use Rattle.tables.specs.Answers.{checkedOf};
 
@@ -31,6 +32,7 @@ pub struct Opened {
 // The record of a table at any place 0 to 3^n.
 pub fn open(n: u64, m: u64, table: &[u64], place: Place) -> Opened
     ensures { λ r. ⌜ r ≡ openOf n m (now (table .entry)) (place .0) ⌝ }
+    ensures number { λ r. ⌜ codeOf (r .verdict) ≡ codeOf (openVerdict n m (now (table .entry)) (place .0)) ⌝ }
 {
     let verdict = tables::check(n, m, table);
     match verdict {

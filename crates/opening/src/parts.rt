@@ -8,7 +8,6 @@ ghost use Prim.Native.Nat.{ℕ, _+_, _-_, _*_, _%_, _^_, _<_, _≤_};
 ghost use lib.ListN.{length, getD};
 ghost use Rattle.trits.specs.Trit.{Holds};
 ghost use Rattle.positions.specs.Positions.{latest, lastOf};
-ghost use Rattle.gray.specs.Numbers.{pointDigit};
 ghost use Rattle.polynomials.specs.Poly.{slope, diff};
 ghost use Rattle.tables.specs.Words.{polyAt, Table};
 ghost use Rattle.tables.specs.Monomials.{countOf};
@@ -17,21 +16,11 @@ ghost use Rattle.tables.specs.Answers.{checkedOf};
 ghost use Rattle.opening.specs.Opened.{openedAt};
 ghost use Rattle.opening.specs.Parts.{Slots};
 
-// The digits of the point at a place.
-fn digits(n: usize, place: u64) -> [u64; 20]
-    requires { ⌜ n ≤ 20 ⌝ }
-    ensures { λ r. ⌜ ((k : ℕ) → k < n → getD r k 0 ≡ pointDigit 3 place k) ⌝ }
+// The unknown before b, or 0 at the first.
+fn one_before(b: usize) -> usize
+    ensures { λ r. ⌜ r ≡ b - 1 ⌝ }
 {
-    let mut d = [0u64; 20];
-    let mut rest = place;
-    let mut k: usize = 0;
-    while k < n {
-        let up = rest / 3;
-        d[k] = (rest % 3 + 3 - up % 3) % 3;
-        rest = up;
-        k += 1;
-    }
-    d
+    if b == 0 { 0 } else { b - 1 }
 }
 
 // The number of the latest move in a row of moves of which x were due: one less than x, or two where that is a multiple of 3.
@@ -74,15 +63,15 @@ fn slope_term(c: &[u64], n: usize, b: usize, i: usize, t: u64) -> Vector
     trits::times(twice, t)
 }
 
-// The change of unknown b at a point: its coefficients, and a term for each unknown.
+// The change of unknown b at a point whose digits before the one before b are 0: its coefficients, and a term for each unknown from there on.
 fn change(c: &[u64], n: usize, b: usize, x: [u64; 20]) -> Vector
     requires { ⌜ (n ≤ 20) × (b < n) × (length (now c) ≡ 2 * countOf n) ⌝ }
-    ensures { λ r. ⌜ ((m : ℕ) (p : ℕ → ℕ) → Table n m (now (c .entry)) → ((k : ℕ) → k < n → getD x k 0 ≡ p k) → Holds m (λ e. diff (polyAt n (now (c .entry)) e) n b p) r) ⌝ }
+    ensures { λ r. ⌜ ((m : ℕ) (p : ℕ → ℕ) → Table n m (now (c .entry)) → ((k : ℕ) → k < b - 1 → p k ≡ 0) → ((k : ℕ) → b - 1 ≤ k → k < n → getD x k 0 ≡ p k) → Holds m (λ e. diff (polyAt n (now (c .entry)) e) n b p) r) ⌝ }
 {
     let one = tables::vector(c, 1 + b);
     let square = tables::entry(c, n, b, b);
     let mut v = trits::add(one, square);
-    let mut i: usize = 0;
+    let mut i = one_before(b);
     while i < n {
         let t = x[i];
         let s = slope_term(c, n, b, i, t);
@@ -92,19 +81,22 @@ fn change(c: &[u64], n: usize, b: usize, x: [u64; 20]) -> Vector
     v
 }
 
-// The slots of the record whose latest place is q.
+// The slots of the record whose latest place is q. Before the move of an unknown all digits below the one before it are 0.
 fn slots(c: &[u64], n: usize, q: u64) -> [Vector; 20]
     requires { ⌜ (n ≤ 20) × (q < 2 ^ 32) × (length (now c) ≡ 2 * countOf n) ⌝ }
     ensures { λ r. ⌜ Slots n (now (c .entry)) q r ⌝ }
 {
     let mut s = [Vector { high: 0, low: 0 }; 20];
     let mut power: u64 = 1;
+    let mut lower: u64 = 1;
     let mut b: usize = 0;
     while b < n {
         let w = before_move(q, power);
-        let x = digits(n, w);
+        let from = one_before(b);
+        let x = gray::digits_at(n, from, lower, Place(w));
         let v = change(c, n, b, x);
         s[b] = v;
+        lower = power;
         power = power * 3;
         b += 1;
     }
@@ -125,8 +117,8 @@ fn fill(n: u64, m: u64, table: &[u64], place: u64, c: &mut [u64]) -> Record
 {
     let k = n as usize;
     let q = latest_place(place);
-    let x = digits(k, q);
-    differences::coefficients(n, m, table, c);
+    let x = gray::digits_at(k, 0, 1, Place(q));
+    differences::coefficients_into(table, c, k);
     let value = evaluation::value_at(c, k, &x);
     let slots = slots(c, k, q);
     Record {

@@ -1,5 +1,7 @@
 -- `opening::open` meets its contract: by the verdict on the table.
 use mathlib.Core.Path.{_≡_, sym, ap, _∙_}
+use Rattle.refusals.specs.Refusal.{codeOf}
+use Rattle.opening.specs.declared.Opened.{Opened}
 use Rattle.opening.proofs.VerdictLaw.{open-refused}
 use borrow.Author.Needs.{needs}
 use Rattle.opening.proofs.open.Statement.{statement}
@@ -34,11 +36,12 @@ open-checked-requires c κs = sym (c .before .before .check .ensures) ∙ c .enu
 returns : tie.Need-returns
 returns c =
     let s = c .before .before .before .before .before .before in
-    c .refused .ensures ∙ open-refused (s .args .n) (s .args .m) (s .args .table .now) (s .args .place .0) _ (sym (c .before .before .before .before .check .ensures) ∙ c .before .before .verdict .given .1)
+    let e = c .refused .ensures ∙ open-refused (s .args .n) (s .args .m) (s .args .table .now) (s .args .place .0) _ (sym (c .before .before .before .before .check .ensures) ∙ c .before .before .verdict .given .1) in
+    (e, ap (λ (r : Opened). codeOf (r .verdict)) e)
 
 -- src/lib.rt:45:1
 returns-2 : tie.Need-returns-2
-returns-2 c = search needs
+returns-2 c = let e = c .open-checked .ensures in (e, ap (λ (r : Opened). codeOf (r .verdict)) e)
 
 pub open-spec : {M : Type 1} → statement M
 open-spec =

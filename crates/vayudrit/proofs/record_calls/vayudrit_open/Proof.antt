@@ -54,7 +54,7 @@ returns-2 c =
     let w = c .before .before .before .before .before .room-for in
     let h = room-done (a .n) (a .m) (length (a .«record» .now)) 45 (sym (w .ensures) ∙ code-zero (w .result) (sym (c .before .before .before .before .code .ensures) ∙ c .before .before .before .if1 .left)) in
     let u = openVerdict (a .n) (a .m) (a .table .now) (a .place) in
-    let o : c .before .before .«open» .result .verdict ≡ u = ap (λ (z : Opened). z .verdict) (c .before .before .«open» .ensures) in
+    let o : c .before .before .«open» .result .verdict ≡ u = ap (λ (z : Opened). z .verdict) (c .before .before .«open» .ensures .0) in
     let e = c .before .code2 .ensures ∙ ap codeOf o in
     moved (room (a .n) (a .m) (length (a .«record» .now)) 45 u) u (h .1 u) _ _ (a .«record» .now) (recordWords (openedAt (a .n) (a .m) (a .table .now) (a .place)))
     (e, kept-refused u (λ z. c .if2 .taken (e ∙ z)) (a .«record» .now) (recordWords (openedAt (a .n) (a .m) (a .table .now) (a .place))))
@@ -79,8 +79,8 @@ returns-3 c =
     let h = room-done (a .n) (a .m) (length (a .«record» .now)) 45 (sym (w .ensures) ∙ code-zero (w .result) (sym (c .before .before .before .before .before .before .before .before .before .code .ensures) ∙ c .before .before .before .before .before .before .before .before .if1 .left)) in
     let u = openVerdict (a .n) (a .m) (a .table .now) (a .place) in
     let g = c .before .before .before .before .before .before .before .«open» in
-    let d : u ≡ Done = code-zero u (sym (c .before .before .before .before .before .before .code2 .ensures ∙ ap (λ (z : Opened). codeOf (z .verdict)) (g .ensures)) ∙ c .before .before .before .before .before .if2 .left) in
-    let r = ap (λ (z : Opened). recordWords (z .«record»)) (g .ensures) ∙ ap (λ (v : Verdict). recordWords (after v noRecord (openedAt (a .n) (a .m) (a .table .now) (a .place)))) d in
+    let d : u ≡ Done = code-zero u (sym (c .before .before .before .before .before .before .code2 .ensures ∙ ap (λ (z : Opened). codeOf (z .verdict)) (g .ensures .0)) ∙ c .before .before .before .before .before .if2 .left) in
+    let r = ap (λ (z : Opened). recordWords (z .«record»)) (g .ensures .0) ∙ ap (λ (v : Verdict). recordWords (after v noRecord (openedAt (a .n) (a .m) (a .table .now) (a .place)))) d in
     moved (room (a .n) (a .m) (length (a .«record» .now)) 45 u) u (h .1 u) _ _ (a .«record» .now) (recordWords (openedAt (a .n) (a .m) (a .table .now) (a .place)))
     (sym (ap codeOf d), c .before .before .put-record .ensures ∙ r ∙ sym (ap (λ (v : Verdict). after v (a .«record» .now) (recordWords (openedAt (a .n) (a .m) (a .table .now) (a .place)))) d))
 
