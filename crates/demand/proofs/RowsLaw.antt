@@ -13,7 +13,8 @@ use Rattle.refusals.specs.declared.Refusal.the-variants as refusal
 use Rattle.refusals.specs.declared.Verdict.{Verdict}
 use Rattle.refusals.specs.declared.Verdict.the-variants as verdict
 use Rattle.refusals.specs.Refusal.{refuse, after}
-use Rattle.refusals.proofs.RefusalLaw.{refuse-none, Within, sized-within, sized-next}
+use Rattle.refusals.proofs.RefusalLaw.{refuse-none, sized-within, sized-next}
+use Rattle.refusals.specs.Limits.{Within}
 use Rattle.residues.specs.Residue.{floorMod}
 use Rattle.residues.specs.Sums.{sum}
 use Rattle.trits.specs.Trit.{trit}

@@ -10,7 +10,8 @@ use lib.ListN.{length}
 use borrow.Author.Tests.{eqb-true, eq-eqb, ltb-false, not-false, le-ltb}
 use Rattle.refusals.specs.declared.Refusal.the-variants as refusal
 use Rattle.refusals.specs.declared.Verdict.the-variants as verdict
-use Rattle.refusals.proofs.RefusalLaw.{done-test, done-next, refuse-none, Within, sized-within, sized-next, sized-done}
+use Rattle.refusals.proofs.RefusalLaw.{done-test, done-next, refuse-none, sized-within, sized-next, sized-done}
+use Rattle.refusals.specs.Limits.{Within}
 use Rattle.trits.specs.declared.Vector.{Vector}
 use Rattle.trits.specs.Trit.{ofTrits}
 use Rattle.gray.specs.Numbers.{pointDigit}

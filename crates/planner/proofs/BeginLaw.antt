@@ -13,7 +13,8 @@ use Rattle.refusals.specs.declared.Refusal.the-variants as refusal
 use Rattle.refusals.specs.declared.Verdict.{Verdict}
 use Rattle.refusals.specs.declared.Verdict.the-variants as verdict
 use Rattle.refusals.specs.Refusal.{numberOf, refuse, after}
-use Rattle.refusals.proofs.RefusalLaw.{refuse-none, sized-next, Within}
+use Rattle.refusals.proofs.RefusalLaw.{refuse-none, sized-next}
+use Rattle.refusals.specs.Limits.{Within}
 use Rattle.tables.specs.Monomials.{countOf}
 use Rattle.tables.specs.Words.{Table, legalFront, wordsOf, differencesOf}
 use Rattle.tables.specs.Answers.{long, paired, checkedOf, copyVerdict, differencesAfter}

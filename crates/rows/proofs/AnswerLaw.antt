@@ -8,12 +8,17 @@ use borrow.Author.Tests.{eq-eqb, ne-eqb}
 use Rattle.refusals.specs.declared.Refusal.the-variants.{Length}
 use Rattle.refusals.specs.declared.Verdict.{Verdict}
 use Rattle.refusals.specs.declared.Verdict.the-variants.{Done, Refused}
+use Rattle.refusals.specs.Limits.{Within}
 use Rattle.refusals.specs.Refusal.{sized}
+use Rattle.refusals.proofs.RefusalLaw.{sized-next}
 use Rattle.tables.specs.Monomials.{countOf}
 use Rattle.tables.specs.Answers.{long, packVerdict}
 use Rattle.tables.proofs.AnswerLaw.{long-refused, long-passed}
 
-module _ (n m : ℕ) (rows : List ℤ) (t : List ℕ) (sizes : (v : Verdict) → sized n m v ≡ v) (k : ℕ) (count : k ≡ countOf n) where
+module _ (n m : ℕ) (rows : List ℤ) (t : List ℕ) (w : Within n m) (k : ℕ) (count : k ≡ countOf n) where
+  sizes : (v : Verdict) → sized n m v ≡ v
+  sizes v = sized-next n m v w
+
   pub pack-rows : (length rows ≡ m * k → ⊥) → packVerdict n m rows t ≡ Refused Length
   pack-rows d = sizes _ ∙ rw (ne-eqb (length rows) (m * countOf n) (λ e. d (e ∙ ap (λ (x : ℕ). m * x) (sym count))))
 

@@ -1,10 +1,10 @@
 // Signed rows into words: equation e of the system becomes bit e of every entry.
 use refusals::Refusal;
 use refusals::Verdict;
+use refusals::sizes_fit;
 use residues::remainder;
 use tables::count;
 use tables::put_entry;
-use tables::sizes;
 use tables::vector;
 use trits::Vector;
 use trits::with_trit;
@@ -12,6 +12,8 @@ ghost use mathlib.Core.Path.{_≡_};
 ghost use mathlib.Core.List.{List};
 ghost use Prim.Native.Nat.{ℕ, _+_, _*_, _<_, _≤_};
 ghost use lib.ListN.{length};
+ghost use Rattle.refusals.specs.Limits.{mostUnknowns, mostEquations};
+ghost use Rattle.refusals.specs.Refusal.{codeOf};
 ghost use Rattle.trits.specs.Trit.{none};
 ghost use Rattle.tables.specs.Monomials.{countOf};
 ghost use Rattle.tables.specs.Words.{entry, Written, packed};
@@ -46,7 +48,7 @@ fn pack_row(row: &[i8], e: u64, table: &mut [u64])
 
 // The rows of m equations, each handed on as a part of the row table.
 fn pack_rows(n: usize, m: usize, rows: &[i8], table: &mut [u64])
-    requires { ⌜ (1 ≤ n) × (n ≤ 20) × (m ≤ 64) × (length (now rows) ≡ m * countOf n) × (length (now table) ≡ 2 * countOf n) ⌝ }
+    requires { ⌜ (1 ≤ n) × (n ≤ mostUnknowns) × (m ≤ mostEquations) × (length (now rows) ≡ m * countOf n) × (length (now table) ≡ 2 * countOf n) ⌝ }
     ensures { λ _. ⌜ now (table .exit) ≡ packed n m (now (rows .entry)) ⌝ }
 {
     let entries = count(n);
@@ -62,10 +64,11 @@ fn pack_rows(n: usize, m: usize, rows: &[i8], table: &mut [u64])
 
 // Signed rows, m times N numbers, into a table of words: `table` is written whole, or on a refusal left as it was.
 pub fn pack(n: u64, m: u64, rows: &[i8], table: &mut [u64]) -> Verdict
-    ensures { λ r. ⌜ r ≡ packVerdict n m (now (rows .entry)) (now (table .entry)) ⌝ }
+    ensures answer { λ r. ⌜ r ≡ packVerdict n m (now (rows .entry)) (now (table .entry)) ⌝ }
     ensures left { λ r. ⌜ now (table .exit) ≡ packAfter n m (now (rows .entry)) (now (table .entry)) ⌝ }
+    ensures number { λ r. ⌜ codeOf r ≡ codeOf (packVerdict n m (now (rows .entry)) (now (table .entry))) ⌝ }
 {
-    if !sizes(n, m) {
+    if !sizes_fit(n, m) {
         return Verdict::Refused(Refusal::Size);
     }
     let entries = count(n as usize);

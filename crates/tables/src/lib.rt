@@ -8,7 +8,6 @@ mod monomials;
 
 pub use checks::check;
 pub use checks::check_copy;
-pub use checks::sizes;
 pub use monomials::count;
 pub use monomials::entry;
 pub use monomials::index;

@@ -12,7 +12,8 @@ use Rattle.refusals.specs.declared.Refusal.the-variants.{Size, Length}
 use Rattle.refusals.specs.declared.Verdict.{Verdict}
 use Rattle.refusals.specs.declared.Verdict.the-variants.{Done, Refused}
 use Rattle.refusals.specs.Refusal.{codeOf, sized, after}
-use Rattle.refusals.proofs.RefusalLaw.{number-pos, done-test, done-next, refuse-none, refused-next, refused-last, Within, sized-within, sized-next, sized-done}
+use Rattle.refusals.proofs.RefusalLaw.{number-pos, done-test, done-next, refuse-none, refused-next, refused-last, sized-within, sized-next, sized-done}
+use Rattle.refusals.specs.Limits.{Within}
 use Rattle.tables.specs.Monomials.{countOf}
 use Rattle.walks.specs.declared.Report.{Report}
 use Rattle.walks.specs.Calls.{reportOf, pointsIn}

@@ -23,13 +23,13 @@ enum-told c = search needs
 
 -- src/calls.rt:131:26
 judged-checked-requires : tie.Need-judged-checked-requires
-judged-checked-requires c κs = sym (c .before .before .check .ensures) ∙ c .enum-told .given .1
+judged-checked-requires c κs = sym (c .before .before .check .ensures .0) ∙ c .enum-told .given .1
 
 -- src/calls.rt:125:1
 returns : tie.Need-returns
 returns c =
     let s = c .before .before .before .before .before in
-    by-table (s .args .n) (s .args .m) (s .args .table .now) (s .args .r) (s .args .budget) (s .args .room) _ (sym (c .before .before .before .check .ensures) ∙ c .before .verdict .given .1)
+    by-table (s .args .n) (s .args .m) (s .args .table .now) (s .args .r) (s .args .budget) (s .args .room) _ (sym (c .before .before .before .check .ensures .0) ∙ c .before .verdict .given .1)
 
 -- src/calls.rt:125:1
 returns-2 : tie.Need-returns-2
