@@ -211,28 +211,24 @@ printf 'p edge 20 6\ne 1 2\ne 1 3\ne 1 4\ne 2 3\ne 2 4\ne 3 4\n' >"$out/silent" 
 moment() { sleep "0.$((RANDOM % 4))$((RANDOM % 10))"; }
 RANDOM=$seed
 child_of() { awk -v parent="$1" '{ sub(/.*\) /, "") } $2 == parent { split(FILENAME, part, "/"); print part[3] }' /proc/[0-9]*/stat 2>/dev/null | head -n 1 || :; }
-# killed SIGNAL WHOM: during a silent search
+# killed SIGNAL WHOM [AT]: during a silent search, at a random moment or once the program runs
 killed() {
-    local script shell program whom
+    local script shell='' program='' whom
     env --default-signal=HUP,INT,TERM ./layouts "$out/silent" >"$out/part" 2>/dev/null &
     script=$!
-    moment
-    shell=$(child_of "$script")
-    program=$(child_of "${shell:-none}")
+    find_program() { shell=$(child_of "$script") && program=$(child_of "${shell:-none}") && [[ -n $program && $(cat "/proc/$program/comm") == layouts ]]; }
+    if (($# == 3)); then until_true find_program; else moment && { find_program || :; }; fi
     whom=${!2}
     kill "-$1" "${whom:-$script}"
     wait "$script" && return
     set -- "$?" "$2"
-    [[ -z $program || $2 == shell ]] || until_true gone "$program" || fail 'the program runs on'
-    [[ $2 != shell || -z $program ]] || kill -KILL "$program" 2>/dev/null || :
+    [[ $2 != shell ]] || kill -KILL "$program" # nobody else can
+    [[ -z $program ]] || until_true gone "$program" || fail 'the program runs on'
     return "$1"
 }
 for turn in 1 2 3; do
     for signal in HUP/129 INT/130 TERM/143; do gives "${signal#*/}" '' killed "${signal%/*}" script; done
-    for whom in shell program; do
-        status=$(status_of killed KILL "$whom")
-        ((status == 1 || status == 137)) || fail "a killed $whom: status $status"
-    done
+    for whom in shell program; do gives 1 '' killed KILL "$whom" running; done
     cp "$out/part" "$out/before"
     sleep 0.1
     cmp "$out/part" "$out/before" || fail 'something is written afterwards'
@@ -304,7 +300,7 @@ rm "$copy/slow"
 gives 0 'building' with_rt # the lock is free again
 on_a_terminal() { rm "$copy/target/bin/layouts" && PATH=$copy/path:$PATH command script -qec "$copy/layouts examples/triangle.col" /dev/null </dev/null >"$out/terminal"; }
 gives 0 '' on_a_terminal
-grep -q 'crate 0 of 2, 0 s so far' "$out/terminal" || fail "the line of a build: $(cat -v "$out/terminal")"
+grep -q 'crate [01] of 2\(, base\)\?, 0 s so far' "$out/terminal" || fail "the line of a build: $(cat -v "$out/terminal")"
 
 # ---- many texts: the program against the second program ----
 compile() { ${CC:-cc} -std=c99 -Wall -Wextra -Werror "$@"; }
