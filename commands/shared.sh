@@ -78,15 +78,14 @@ end_build() {
 
 # The line of a build: on a terminal written over itself until the build ends, elsewhere once.
 watch_build() { # LOG
-    local total crate count began=$SECONDS
+    local total proved began=$SECONDS
     total=$(crates_needed)
     [[ -t 2 ]] || say "building the program, which proves its $total crates first; this takes some minutes, once"
     while kill -0 "$builder" 2>/dev/null; do
         if [[ -t 2 ]]; then
-            count=$(grep -c '^rt: [a-z0-9_]* proved' "$1")
-            crate=$(sed -n 's/^rt: \([a-z0-9_]*\) proved.*/, \1/p' "$1" | tail -n 1)
-            printf '\r%s: building, which proves the program first: crate %d of %d%s, %s so far\e[K' \
-                "$name" "$count" "$total" "$crate" "$(duration $((SECONDS - began)))" >&2 2>/dev/null
+            mapfile -t proved < <(sed -n 's/^rt: \([a-z0-9_]*\) proved.*/\1/p' "$1")
+            printf '\r%s: building, which proves the program first: crate %d of %d%s, %s so far\e[K' "$name" \
+                "${#proved[@]}" "$total" "${proved[*]:+, ${proved[-1]}}" "$(duration $((SECONDS - began)))" >&2 2>/dev/null
         fi
         sleep 0.2
     done

@@ -12,16 +12,16 @@ give_status() { # STATUS
 }
 
 pass_on() { # SIGNAL
-    trap '' HUP INT TERM
-    kill -USR1 "$child" 2>/dev/null
-    while kill -0 "$child" 2>/dev/null; do wait "$child"; done
+    trap '' HUP INT QUIT TERM
+    kill -USR1 "$!" 2>/dev/null
+    while kill -0 "$!" 2>/dev/null; do wait "$!"; done
     trap - "$1"
     kill -s "$1" "$$"
 }
 
-child=
 trap 'pass_on HUP' HUP
 trap 'pass_on INT' INT
+trap 'pass_on QUIT' QUIT
 trap 'pass_on TERM' TERM
 if [ -e /dev/fd/0 ]; then # what runs beside a plain shell would have no input
     exec 4<&0
@@ -29,6 +29,5 @@ if [ -e /dev/fd/0 ]; then # what runs beside a plain shell would have no input
 else
     bash "$home/commands/shared.sh" "$name" "$@" <&- &
 fi
-child=$!
-wait "$child"
+wait "$!"
 give_status "$?"

@@ -203,31 +203,32 @@ END
 
 # ---- signals at random moments: to the script, and to the program ----
 until_true() { local turn; for ((turn = 0; turn < 200; turn++)); do ! "$@" || return 0; sleep 0.02; done; return 1; }
+has_lines() { [[ $(grep -c '' "$2" 2>/dev/null) == "$1" ]]; }
 gone() { ! kill -0 "$1" 2>/dev/null; }
 clean() { [[ -z $(ls "$TMPDIR") && -z $(find /tmp -maxdepth 1 -name 'vayudrit.*' -newer "$out/began") ]] || fail "left behind: $(ls "$TMPDIR" /tmp)"; }
 printf 'p edge 20 6\ne 1 2\ne 1 3\ne 1 4\ne 2 3\ne 2 4\ne 3 4\n' >"$out/silent" # seconds without a line
 : >"$out/began"
 moment() { sleep "0.$((RANDOM % 4))$((RANDOM % 10))"; }
 RANDOM=$seed
-# killed SIGNAL WHOM: during a silent search
+child_of() { awk -v parent="$1" '{ sub(/.*\) /, "") } $2 == parent { split(FILENAME, part, "/"); print part[3] }' /proc/[0-9]*/stat 2>/dev/null | head -n 1 || :; }
+# killed SIGNAL WHOM [AT]: during a silent search, at a random moment or once the program runs
 killed() {
-    local script program whom
+    local script shell='' program='' whom
     env --default-signal=HUP,INT,TERM ./layouts "$out/silent" >"$out/part" 2>/dev/null &
     script=$!
-    moment
-    program=$(pgrep -P "$script" || true)
-    whom=$script
-    [[ $2 != program || -z $program ]] || whom=$program
-    kill "-$1" "$whom"
+    find_program() { shell=$(child_of "$script") && program=$(child_of "${shell:-none}") && [[ -n $program && $(cat "/proc/$program/comm") == layouts ]]; }
+    if (($# == 3)); then until_true find_program; else moment && { find_program || :; }; fi
+    whom=${!2}
+    kill "-$1" "${whom:-$script}"
     wait "$script" && return
-    set -- "$?"
+    set -- "$?" "$2"
+    [[ $2 != shell ]] || kill -KILL "$program" # nobody else can
     [[ -z $program ]] || until_true gone "$program" || fail 'the program runs on'
     return "$1"
 }
 for turn in 1 2 3; do
     for signal in HUP/129 INT/130 TERM/143; do gives "${signal#*/}" '' killed "${signal%/*}" script; done
-    status=$(status_of killed KILL program)
-    ((status == 1 || status == 137)) || fail "a killed program: status $status"
+    for whom in shell program; do gives 1 '' killed KILL "$whom" running; done
     cp "$out/part" "$out/before"
     sleep 0.1
     cmp "$out/part" "$out/before" || fail 'something is written afterwards'
@@ -285,14 +286,13 @@ times_built 4 'two builds at once'
 killed_build() {
     rm -f "$copy/target/bin/layouts" "$copy/running" && echo 30 >"$copy/slow"
     PATH=$copy/path:$PATH env --default-signal=HUP,INT,TERM "$copy/layouts" <examples/triangle.col >"$out/part" 2>/dev/null &
-    two_run() { [[ $(wc -l 2>/dev/null <"$copy/running") -eq 2 ]]; }
-    until_true two_run
+    until_true has_lines 2 "$copy/running"
     kill "-$1" "$!"
     wait "$!"
 }
 for signal in HUP/129 INT/130 TERM/143; do
     gives "${signal#*/}" '' killed_build "${signal%/*}"
-    for process in $(cat "$copy/running"); do gone "$process" || fail 'a process of the build runs on'; done
+    while read -r process; do gone "$process" || fail 'a process of the build runs on'; done <"$copy/running"
     [[ ! -s $out/part && ! -e $copy/target/bin/layouts ]] || fail 'something is written after the signal'
     clean
 done
@@ -300,7 +300,7 @@ rm "$copy/slow"
 gives 0 'building' with_rt # the lock is free again
 on_a_terminal() { rm "$copy/target/bin/layouts" && PATH=$copy/path:$PATH command script -qec "$copy/layouts examples/triangle.col" /dev/null </dev/null >"$out/terminal"; }
 gives 0 '' on_a_terminal
-grep -q 'crate 0 of 2, 0 s so far' "$out/terminal" || fail "the line of a build: $(cat -v "$out/terminal")"
+grep -q 'crate [01] of 2\(, base\)\?, 0 s so far' "$out/terminal" || fail "the line of a build: $(cat -v "$out/terminal")"
 
 # ---- many texts: the program against the second program ----
 compile() { ${CC:-cc} -std=c99 -Wall -Wextra -Werror "$@"; }

@@ -78,12 +78,12 @@ pub fn send(fd: i32, buf: &[u8]) -> usize
     while done < buf.len() {
         let part = &buf[done..];
         let got = libc::write(fd, part);
-        let more = io::count(got, part);
-        tries = tries_after(got, more, tries);
+        let taken = io::count(got, part);
+        tries = tries_after(got, taken, tries);
         if tries == 0 {
             return done;
         }
-        done += more;
+        done += taken;
     }
     done
 }
