@@ -1,6 +1,6 @@
 // Blocks of 27 places: 27 is three nines, nine is three threes, and only slots 0 to 2 move inside.
 use moves::jot;
-use moves::plus;
+use moves::raise;
 use trits::Vector;
 ghost use mathlib.Core.Path.{_≡_};
 ghost use mathlib.Core.List.{List};
@@ -53,13 +53,12 @@ fn move0(mut x: Part, t: Vector) -> Part
 {
     let slot = x.s0;
     let value = x.value;
-    let s = plus(slot, t, x.additions);
-    let up = s.vector;
-    let v = plus(value, up, s.additions);
-    let next = v.vector;
+    let m = raise(slot, value, t, x.additions);
+    let up = m.slot;
+    let next = m.value;
     x.s0 = up;
     x.value = next;
-    x.additions = v.additions;
+    x.additions = m.additions;
     x
 }
 
@@ -71,13 +70,12 @@ fn move1(mut x: Part, t: Vector) -> Part
 {
     let slot = x.s1;
     let value = x.value;
-    let s = plus(slot, t, x.additions);
-    let up = s.vector;
-    let v = plus(value, up, s.additions);
-    let next = v.vector;
+    let m = raise(slot, value, t, x.additions);
+    let up = m.slot;
+    let next = m.value;
     x.s1 = up;
     x.value = next;
-    x.additions = v.additions;
+    x.additions = m.additions;
     x
 }
 
@@ -89,13 +87,12 @@ fn move2(mut x: Part, t: Vector) -> Part
 {
     let slot = x.s2;
     let value = x.value;
-    let s = plus(slot, t, x.additions);
-    let up = s.vector;
-    let v = plus(value, up, s.additions);
-    let next = v.vector;
+    let m = raise(slot, value, t, x.additions);
+    let up = m.slot;
+    let next = m.value;
     x.s2 = up;
     x.value = next;
-    x.additions = v.additions;
+    x.additions = m.additions;
     x
 }
 

@@ -37,6 +37,22 @@ pub fn plus(a: Vector, b: Vector, additions: u64) -> Sum
     }
 }
 
+// A slot is brought up by t, and added to the value: the two additions of a move.
+pub fn raise(slot: Vector, value: Vector, t: Vector, additions: u64) -> Moved
+    requires { ⌜ additions + 2 < 2 ^ 64 ⌝ }
+    ensures { λ r. ⌜ (r .slot ≡ addOf slot t) × (r .value ≡ addOf value (addOf slot t)) × (r .additions ≡ additions + 1 + 1) ⌝ }
+{
+    let s = plus(slot, t, additions);
+    let up = s.vector;
+    let v = plus(value, up, s.additions);
+    let next = v.vector;
+    Moved {
+        slot: up,
+        value: next,
+        additions: v.additions,
+    }
+}
+
 // How many are found after a value at a place; the point of a zero is written at the first free entry of list.
 pub fn mark(n: usize, value: Vector, place: u64, found: usize, list: &mut [u64]) -> usize
     requires { ⌜ (n ≤ 20) × (found < length (now list)) ⌝ }
@@ -137,13 +153,5 @@ pub fn head(
     let f = positions::split(rest - 1);
     let c = b + f.position;
     let t = tables::entry(table, n, b, c);
-    let s = plus(slot, t, additions);
-    let up = s.vector;
-    let v = plus(value, up, s.additions);
-    let next = v.vector;
-    Moved {
-        slot: up,
-        value: next,
-        additions: v.additions,
-    }
+    raise(slot, value, t, additions)
 }

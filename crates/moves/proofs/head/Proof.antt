@@ -70,31 +70,26 @@ entry-requires c κs =
     let f : lowestOf 3 (a .place - 3 ^ a .b) < a .n = of-lt 3 two (a .n) (a .place - 3 ^ a .b) (u .0) (omega arith) in
     (s .pre .0 .small, omega arith, omega (arith, c .before .split .ensures .position), s .pre .0 .table)
 
--- src/lib.rt:111:9
-plus-requires-2 : tie.Need-plus-requires-2
-plus-requires-2 c κs = search needs
+-- src/lib.rt
+raise-requires : tie.Need-raise-requires
+raise-requires c κs = search needs
 
--- src/lib.rt:113:9
-plus-requires-3 : tie.Need-plus-requires-3
-plus-requires-3 c κs = search needs
-
--- src/lib.rt:78:1
+-- src/lib.rt
 returns-3 : tie.Need-returns-3
 returns-3 c =
-    let s = c .before .before .before .before .before .before .before .before .before .before in
+    let s = c .before .before .before .before .before .before .before in
     let a = s .args in
     let q = s .pre .1 in
-    let o : 1 < a .rest = omega (arith, c .before .before .before .before .before .before .before .if2, c .before .before .before .before .before .before .before .before .if1) in
+    let o : 1 < a .rest = omega (arith, c .before .before .before .before .if2, c .before .before .before .before .before .if1) in
     let u = second (a .place) (a .b) (a .rest) (q .2) o in
     let h : 0 < a .place = above (a .place) (a .b) (a .rest) (q .2) (omega arith) in
-    let v = c .before .plus3 .ensures in
-    let y = c .before .before .before .plus2 .ensures in
-    let g = c .before .before .before .before .before .before .split in (
+    let v = c .raise .ensures in
+    let g = c .before .before .before .split in (
       (λ st hv ha hs l.
           head-two (a .n) (product (a .table .now) (a .n)) (a .place) (a .b) (a .b + g .result .position) st _ h (q .1) (u .0)
           (ap (λ (x : ℕ). a .b + x) (g .ensures .position) ∙ sym (u .1)) l
-          (y .0 ∙ rw (hs, c .before .before .before .before .entry .ensures)) (v .0 ∙ rw hv) (omega arith)),
-      omega arith,
+          (v .0 ∙ rw (hs, c .before .entry .ensures)) (v .1 ∙ rw (hv, v .0)) (omega (arith, v .2))),
+      omega (arith, v .2),
     )
 
 pub head-spec : {M : Type 1} → statement M
@@ -108,6 +103,5 @@ head-spec =
     split-requires
     add-c
     entry-requires
-    plus-requires-2
-    plus-requires-3
+    raise-requires
     returns-3)

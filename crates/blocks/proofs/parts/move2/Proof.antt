@@ -6,23 +6,18 @@ use Rattle.blocks.proofs.parts.move2.Statement.{statement}
 use Rattle.blocks.proofs.parts.move2.Tie as tie
 use Rattle.blocks.proofs.parts.move2.Reads as reads
 use Rattle.blocks.proofs.parts.move2.Lts as lts
-use Rattle.moves.proofs.plus.Reads as plus-reads
+use Rattle.moves.proofs.raise.Reads as raise-reads
 
--- src/parts.rt:92:9
-plus-requires : tie.Need-plus-requires
-plus-requires c κs = search needs
+-- src/parts.rt
+raise-requires : tie.Need-raise-requires
+raise-requires c κs = search needs
 
--- src/parts.rt:94:9
-plus-requires-2 : tie.Need-plus-requires-2
-plus-requires-2 c κs = search needs
-
--- src/parts.rt:85:1
+-- src/parts.rt
 returns : tie.Need-returns
 unfolding bump push lift
 returns c =
-    let p = c .before .before .before .plus .ensures in
-    let q = c .before .plus2 .ensures in
-    ((λ rest l. rw (q .0, q .1, p .0, p .1)), record { place = omega (arith, p .1, q .1); found = omega (arith, p .1, q .1); additions = omega (arith, p .1, q .1) })
+    let m = c .before .before .raise .ensures in
+    ((λ rest l. rw (m .0, m .1, m .2)), record { place = omega (arith, m .2); found = omega (arith, m .2); additions = omega (arith, m .2) })
 
 pub move2-spec : {M : Type 1} → statement M
-move2-spec = tie.close (tie.spec plus-requires plus-requires-2 returns)
+move2-spec = tie.close (tie.spec raise-requires returns)
