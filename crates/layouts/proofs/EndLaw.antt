@@ -34,8 +34,8 @@ module _ (t : List ℕ) (g : Session) (first : ℕ) (s : Session) (sent : ℕ) (
       ap length (w .output) ∙ length-append (take (r .used) b) (leftOf t r)
       ∙ ap (λ (k : ℕ). k + length (leftOf t r)) (length-take-le (r .used) b (w .used))
 
-  pub sum-fits : (got : ℕ) → got ≤ r .used → sent + got < 2 ^ 64
-  sum-fits got l = omega (arith, h .few, falls t s b r o w, w .used)
+  pub sum-fits : sent + r .used < 2 ^ 64
+  sum-fits = omega (arith, h .few, falls t s b r o w, w .used)
 
   pub short : (got : ℕ) → got < r .used → false ≡ eqb (sent + got) (first + length (leftOf t g))
   short got l = sym (ne-eqb (sent + got) (first + length (leftOf t g)) (λ e. omega (arith, e, h .bytes, split)))

@@ -46,7 +46,7 @@ add-sent c =
     let k = c .before .before .before .before .before .before .before .next in
     let b = k .last .1 .1 .1 .1 .0 in
     let most : c .send .result ≤ k .result .used = omega (arith, c .send .ensures, length-take-le (k .result .used) b (k .ensures .used)) in
-    record { fits = sum-fits (a .table .now) (a .begun) (a .first) (l .s) (l .sent) (l .inv .0) b (k .result) (c .before .before .before .before .before .before .before .before .before .before .loop-test .taken) (k .ensures) (omega (arith, k .kept .1 .1 .1 .1 .0, l .inv .5)) (c .send .result) most }
+    record { fits = omega (arith, most, sum-fits (a .table .now) (a .begun) (a .first) (l .s) (l .sent) (l .inv .0) b (k .result) (c .before .before .before .before .before .before .before .before .before .before .loop-test .taken) (k .ensures) (omega (arith, k .kept .1 .1 .1 .1 .0, l .inv .5))) }
 
 same-length : tie.Need-same-length Inv-loop μ-loop
 same-length c = search needs
