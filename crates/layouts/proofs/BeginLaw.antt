@@ -26,11 +26,11 @@ use Rattle.graphs.specs.Answers.{answerOf, wordsAfter}
 use Rattle.graphs.specs.Parts.{Drawn}
 use Rattle.graphs.proofs.SoundLaw.{text-drawn}
 use Rattle.walks.specs.Calls.{zerosIn, costIn}
-use Rattle.search.specs.declared.Opened.{Opened}
-use Rattle.search.specs.Opened.{openedAt, noRecord, openVerdict, openOf}
+use Rattle.opening.specs.declared.Opened.{Opened}
+use Rattle.opening.specs.Opened.{openedAt, noRecord, openVerdict, openOf}
 use Rattle.search.specs.Search.{trailOf}
-use Rattle.search.proofs.VerdictLaw.{checked-next}
-use Rattle.search.proofs.DemandLaw.{end-is, cost-all}
+use Rattle.opening.proofs.VerdictLaw.{checked-next}
+use Rattle.demand.proofs.DemandLaw.{end-is, cost-all}
 use Rattle.layouts.specs.declared.session.Session.{Session}
 use Rattle.texts.specs.Text.{layoutLines, headLine, totalsLine, refusalLine}
 use Rattle.layouts.specs.Output.{layoutsIn, writtenFor, outputOf, leftFrom, leftIf, leftOf, Begun}

@@ -9,7 +9,7 @@ use Rattle.tables.specs.Monomials.{countOf}
 use Rattle.layouts.specs.declared.session.Session.{Session}
 use Rattle.layouts.specs.Output.{outputOf, Standing, leftFrom, leftIf, leftOf, Begun, Went, Calls, none, more}
 use Rattle.search.specs.Search.{trailOf}
-use Rattle.search.proofs.OpenLaw.{within}
+use Rattle.opening.proofs.OpenLaw.{within}
 use Rattle.layouts.proofs.NextLaw.{append-none}
 
 -- a session that stands has its unknowns within the limits

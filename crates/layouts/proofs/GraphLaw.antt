@@ -20,9 +20,9 @@ use Rattle.graphs.specs.Equations.{noEnds, systemOf}
 use Rattle.graphs.proofs.ColourLaw.{colours}
 use Rattle.walks.specs.Calls.{listed, zerosIn}
 use Rattle.walk.proofs.CallLaw.{zeros-all, all-zeros}
-use Rattle.search.specs.Opened.{systemOf as behind}
+use Rattle.opening.specs.Opened.{systemOf as behind}
 use Rattle.search.specs.Search.{trailOf}
-use Rattle.search.proofs.SystemLaw.{value-agree}
+use Rattle.opening.proofs.SystemLaw.{value-agree}
 use Rattle.layouts.specs.Output.{differAt, layoutsIn}
 
 two : 1 < 3

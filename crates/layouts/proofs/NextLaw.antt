@@ -22,13 +22,13 @@ use Rattle.walks.specs.declared.Stop.the-variants.{Ended, Full, Spent}
 use Rattle.walks.specs.declared.Report.{Report}
 use Rattle.walks.specs.Calls.{Trail, zerosIn, costIn, pointsIn, reportOf, listAfter}
 use Rattle.walks.proofs.CallLaw.{zeros-add, zeros-length, zeros-room, cost-add, cost-most, points-one, points-end, report-ended, after-front, after-length}
-use Rattle.search.specs.declared.Record.{Record}
+use Rattle.opening.specs.declared.Record.{Record}
 use Rattle.search.specs.declared.Answer.{Answer}
 use Rattle.search.specs.declared.Answer.the-variants.{Ran, Refused}
 use Rattle.search.specs.declared.Outcome.{Outcome}
-use Rattle.search.specs.Opened.{openedAt}
+use Rattle.opening.specs.Opened.{openedAt}
 use Rattle.search.specs.Search.{trailOf, searchVerdict, ranOf, outcomeFrom, outcomeOf, listOf}
-use Rattle.search.proofs.OpenLaw.{within, power-small}
+use Rattle.opening.proofs.OpenLaw.{within, power-small}
 use Rattle.search.proofs.VerdictLaw.{asked, verdict-opened}
 use Rattle.layouts.specs.declared.session.Session.{Session}
 use Rattle.texts.specs.Text.{layoutLine, layoutLines, totalsLine}

@@ -6,7 +6,7 @@ use Prim.Native.Nat.{ℕ, _+_, _*_, _≤_}
 use native.Mathlib.Omega.{arith}
 use lib.ListN.{length}
 use Rattle.walks.specs.declared.Report.{Report}
-use Rattle.search.specs.declared.Record.{Record}
+use Rattle.opening.specs.declared.Record.{Record}
 use Rattle.layouts.specs.declared.session.Session.{Session}
 use Rattle.texts.specs.Text.{Put, layoutLines, totalsLine}
 use Rattle.layouts.specs.Output.{leftIf}

@@ -12,7 +12,7 @@ use Rattle.tables.specs.Answers.{checkedOf}
 use Rattle.graphs.specs.Reading.{Ends, Outcome, graph, refused, outcomeOf, faultNumber}
 use Rattle.walks.specs.Calls.{Trail, listed, zerosIn, costIn}
 use Rattle.search.specs.Search.{trailOf}
-use Rattle.search.specs.Opened.{openedAt}
+use Rattle.opening.specs.Opened.{openedAt}
 use Rattle.layouts.specs.declared.session.Session.{Session}
 use Rattle.texts.specs.Text.{layoutLines, headLine, totalsLine, refusalLine}
 

@@ -9,7 +9,7 @@ use Rattle.tables.specs.Words.{Table, differencesOf}
 use Rattle.walks.specs.declared.Stop.{Stop}
 use Rattle.walks.specs.declared.Stop.the-variants.{Ended, Full, Spent}
 use Rattle.walks.specs.declared.Report.{Report}
-use Rattle.search.specs.declared.Record.{Record}
+use Rattle.opening.specs.declared.Record.{Record}
 use Rattle.layouts.specs.declared.Input.{Input}
 use Rattle.layouts.specs.declared.Input.the-variants.{Bytes, Failed}
 use Rattle.layouts.specs.declared.session.Session.{Session}

@@ -2,8 +2,8 @@
 // Contracts cite specs/Output (the output of an input, and what is left of it between two calls) and specs/Parts.
 use graphs::ReadAnswer;
 use gray::Place;
+use opening::Record;
 use search::Answer;
-use search::Record;
 use walks::Report;
 use walks::Stop;
 ghost use mathlib.Core.Path.{_≡_};
@@ -61,7 +61,7 @@ fn start(n: u64, m: u64, words: &[u64], table: &mut [u64], text: &mut [u8]) -> S
     ensures { λ r. ⌜ Started n m (now (words .entry)) (now (table .exit)) (now (text .exit)) r ⌝ }
 {
     tables::differences(n, m, words, table);
-    let o = search::open(n, m, table, Place(0));
+    let o = opening::open(n, m, table, Place(0));
     let first = o.record;
     let used = texts::put_head(text, n, m);
     Session {

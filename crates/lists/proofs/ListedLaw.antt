@@ -9,7 +9,7 @@ use Rattle.refusals.specs.declared.Verdict.the-variants as verdict
 use Rattle.refusals.specs.Refusal.{after}
 use Rattle.codec.specs.Codec.{wordsIn, bytesFrom, pasted}
 use Rattle.codec.proofs.CodecLaw.{length-words}
-use Rattle.search.specs.declared.Record.{Record}
+use Rattle.opening.specs.declared.Record.{Record}
 use Rattle.search.specs.declared.Answer.the-variants.{Refused}
 use Rattle.search.specs.declared.Outcome.{Outcome}
 use Rattle.search.specs.Search.{roomVerdict, ranOf, outcomeFrom}

@@ -16,13 +16,13 @@ use Rattle.walks.proofs.CallLaw.{zeros-add, cost-add, cost-most, points-none, p
 use Rattle.codec.specs.Codec.{bytesFrom, pasted}
 use Rattle.codec.proofs.CodecLaw.{paste-paste, paste-none, from-append, from-nil, length-from, length-pasted}
 use Rattle.tables.specs.Answers.{checkedOf}
-use Rattle.search.specs.declared.Record.{Record}
+use Rattle.opening.specs.declared.Record.{Record}
 use Rattle.search.specs.declared.Answer.the-variants.{Ran}
 use Rattle.search.specs.declared.Outcome.{Outcome}
-use Rattle.search.specs.Opened.{openedAt}
+use Rattle.opening.specs.Opened.{openedAt}
 use Rattle.search.specs.Search.{trailOf, fits, ranOf}
 use Rattle.search.specs.Parts.{stopFrom}
-use Rattle.search.proofs.OpenLaw.{within}
+use Rattle.opening.proofs.OpenLaw.{within}
 use Rattle.search.proofs.VerdictLaw.{fits-opened}
 use Rattle.search.proofs.RanLaw as ran
 use Rattle.lists.specs.Listed.{foundIn}

@@ -5,7 +5,7 @@ use lib.ListN.{length}
 use Rattle.refusals.specs.Refusal.{after}
 use Rattle.walks.specs.Calls.{pointsIn, zerosIn}
 use Rattle.codec.specs.Codec.{wordsIn, bytesFrom, pasted}
-use Rattle.search.specs.declared.Record.{Record}
+use Rattle.opening.specs.declared.Record.{Record}
 use Rattle.search.specs.declared.Outcome.{Outcome}
 use Rattle.search.specs.Search.{trailOf, searchVerdict, outcomeOf}
 

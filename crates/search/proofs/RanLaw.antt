@@ -1,13 +1,13 @@
 -- A call that nothing refuses: the walk from the opened record is the call on the walk of the system, and leaves the record opened where it came to.
 use mathlib.Core.Path.{_≡_, refl, sym, ap, ap₂, subst, _∙_}
-use mathlib.Core.Bool.{Bool, true, false, _&&_}
+use mathlib.Core.Bool.{Bool, true}
 use mathlib.Core.Logic.{by-cases}
 use mathlib.Core.List.{List}
-use Prim.Native.Nat.{ℕ, zero, suc, _+_, _-_, _*_, _%_, _^_, _≤_, _<_}
-use native.Mathlib.Nat.{mod-mod, mod-eq-of-lt}
+use Prim.Native.Nat.{ℕ, _+_, _-_, _%_, _^_, _≤_, _<_}
+use native.Mathlib.Nat.{mod-mod}
 use native.Mathlib.Decide.{decLt}
 use native.Mathlib.Omega.{arith}
-use lib.Dec.{eqb, leb, ltb}
+use lib.Dec.{leb}
 use lib.ListN.{length, getD, List·getD-eq-default}
 use lib.Seq.{ext-getD}
 use borrow.Author.Tests.{leb-true, lt-ltb}
@@ -19,32 +19,30 @@ use Rattle.trits.proofs.ExtLaw.{trit-of, legal-of}
 use Rattle.trits.proofs.LegalLaw.{legal-none, trit-lt}
 use Rattle.gray.specs.Positions.{latest}
 use Rattle.gray.specs.Numbers.{pointDigit}
-use Rattle.polynomials.specs.Poly.{Poly, valueOf, changeOf, eval, diff, tableOf, backOf}
+use Rattle.polynomials.specs.Poly.{Poly, valueOf, changeOf, eval, diff}
 use Rattle.polynomials.proofs.FormLaw.{eval-value, diff-change, table-back, half-three}
 use Rattle.tables.specs.Monomials.{indexOf}
 use Rattle.tables.specs.Words.{entry, polyAt}
 use Rattle.tables.specs.Answers.{checkedOf}
 use Rattle.tables.proofs.IndexLaw.{index-lt}
-use Rattle.walks.specs.Walk.{runOf}
-use Rattle.walks.specs.Calls.{Trail, pointsIn, costIn, zerosIn, stopAt, reportOf, listAfter}
-use Rattle.walks.specs.declared.Report.{Report}
+use Rattle.walks.specs.Calls.{pointsIn, reportOf, listAfter}
 use Rattle.walk.specs.declared.Ran.{Ran}
 use Rattle.walk.specs.declared.Walker.{Walker}
-use Rattle.walk.specs.Step.{State, walkOf}
-use Rattle.walk.specs.Run.{stateOf, fresh, product, haltOf, searchOf}
-use Rattle.walk.specs.Meaning.{Good, Sees, Stands, Tabled, Answers}
+use Rattle.walk.specs.Step.{State}
+use Rattle.walk.specs.Run.{stateOf, fresh, product, searchOf}
+use Rattle.walk.specs.Meaning.{Stands, Tabled, Answers}
 use Rattle.walk.proofs.MeanLaw.{stands-value, stands-slot}
 use Rattle.walk.proofs.CallLaw.{call-is}
-use Rattle.search.specs.declared.Record.{Record}
+use Rattle.opening.specs.declared.Record.{Record}
 use Rattle.search.specs.declared.Outcome.{Outcome}
 use Rattle.search.specs.declared.Answer.the-variants as answer
-use Rattle.search.specs.Opened.{systemOf, valueAt, slotOr, slotAt, slotsAt, openedAt}
+use Rattle.opening.specs.Opened.{systemOf, valueAt, slotOr, slotAt, slotsAt, openedAt}
 use Rattle.search.specs.Search.{trailOf, sameRecord, fits, ranOf}
 use Rattle.search.specs.Parts.{stopFrom, reportedOf}
-use Rattle.search.proofs.PlaceLaw.{two}
+use Rattle.opening.proofs.PlaceLaw.{two}
 use Rattle.search.proofs.RecordLaw.{record-same}
-use Rattle.search.proofs.SystemLaw.{slot-none, slots-length, slots-at}
-use Rattle.search.proofs.OpenLaw.{within, table-legal}
+use Rattle.opening.proofs.SystemLaw.{slot-none, slots-length, slots-at}
+use Rattle.opening.proofs.OpenLaw.{within, table-legal}
 
 module _ (n m : ℕ) (t : List ℕ) where
   -- a record that fits is the one opened at its place

@@ -14,11 +14,11 @@ use Rattle.tables.specs.Answers.{long, paired}
 use Rattle.walks.specs.Calls.{Trail, pointsIn, stopNumber, stopPlace, reportOf, listAfter}
 use Rattle.walks.specs.declared.Report.{Report}
 use Rattle.walk.specs.Meaning.{trailOf as walkTrail}
-use Rattle.search.specs.declared.Record.{Record}
+use Rattle.opening.specs.declared.Record.{Record}
 use Rattle.search.specs.declared.Answer.{Answer}
 use Rattle.search.specs.declared.Answer.the-variants.{Ran, Refused}
 use Rattle.search.specs.declared.Outcome.{Outcome}
-use Rattle.search.specs.Opened.{systemOf, openedAt}
+use Rattle.opening.specs.Opened.{systemOf, openedAt}
 
 -- the walk of the system behind a table (walk/specs/Meaning): 3^n places; a zero is a common zero of the m equations,
 -- listed as its point; a place costs an addition for its value and one more where it has a second position

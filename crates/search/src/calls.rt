@@ -1,10 +1,9 @@
 // One call of the search, step by step: what is judged after the table, and the report of a walk that ran.
 use crate::Answer;
 use crate::Outcome;
-use crate::Record;
-use crate::opening::opened;
 use crate::records::same_record;
 use gray::Place;
+use opening::Record;
 use refusals::Refusal;
 use refusals::Verdict;
 use walk::Ran;
@@ -13,7 +12,7 @@ use walks::Report;
 use walks::Stop;
 ghost use mathlib.Core.Path.{_≡_};
 ghost use mathlib.Core.Bool.{true};
-ghost use Prim.Native.Nat.{_≤_, _+_, _^_};
+ghost use Prim.Native.Nat.{_≤_};
 ghost use lib.ListN.{length};
 ghost use Rattle.refusals.specs.declared.Verdict.the-variants.{Done};
 ghost use Rattle.tables.specs.Answers.{checkedOf};
@@ -30,7 +29,7 @@ fn fits_table(n: u64, m: u64, table: &[u64], r: Record) -> bool
     if at > gray::power(n) {
         return false;
     }
-    let o = opened(n, m, table, at);
+    let o = opening::record_at(n, m, table, at);
     same_record(r, o)
 }
 

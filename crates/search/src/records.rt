@@ -1,5 +1,5 @@
 // Two records are compared whole, field by field.
-use crate::Record;
+use opening::Record;
 use trits::Vector;
 ghost use mathlib.Core.Path.{_≡_};
 ghost use Rattle.search.specs.Search.{sameVector, sameVectors, sameRecord};

@@ -18,10 +18,10 @@ use Rattle.tables.specs.Monomials.{countOf}
 use Rattle.walks.specs.declared.Report.{Report}
 use Rattle.walks.specs.Calls.{reportOf, pointsIn}
 use Rattle.codec.specs.Codec.{wordsIn, bytesFrom, pasted}
-use Rattle.search.specs.declared.Record.{Record}
+use Rattle.opening.specs.declared.Record.{Record}
 use Rattle.search.specs.declared.Answer.the-variants as answer
 use Rattle.search.specs.declared.Outcome.{Outcome}
-use Rattle.search.specs.Opened.{openedAt}
+use Rattle.opening.specs.Opened.{openedAt}
 use Rattle.search.specs.Search.{trailOf, searchVerdict, answerFrom, answerNumber, answerValues}
 use Rattle.lists.specs.Listed.{foundIn, outcomeIn, listIn}
 use Rattle.wire.specs.Wire.{recordIn, recordWords}

@@ -10,7 +10,7 @@ use Rattle.gray.specs.Balanced.{balancedOf, unbalancedOf}
 use Rattle.gray.specs.Answers.{convertVerdict, balancedVerdict}
 use Rattle.tables.specs.Words.{valuesAt}
 use Rattle.tables.specs.Answers.{evaluateVerdict}
-use Rattle.search.specs.Opened.{openedAt, openVerdict}
+use Rattle.opening.specs.Opened.{openedAt, openVerdict}
 use Rattle.wire.specs.Wire.{recordWords}
 use Rattle.wire.specs.Lent.{room, single, vectorWords}
 

@@ -22,7 +22,7 @@ pub extern "C" fn vayudrit_open(
         return refused;
     }
     let p = Place(place);
-    let o = search::open(n, m, table, p);
+    let o = opening::open(n, m, table, p);
     let said = o.verdict;
     let number = refusals::code(said);
     if number != 0 {

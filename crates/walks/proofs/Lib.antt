@@ -7,3 +7,4 @@ pub mod ZeroLaw
 pub mod CostLaw
 pub mod HaltLaw
 pub mod FollowLaw
+pub mod RunsLaw

@@ -10,9 +10,9 @@ use lib.Seq.{take-suc, take-suc-set, drop-cons, take-all, drop-length}
 use Rattle.trits.specs.declared.Vector.{Vector}
 use denote.Laws.{Is}
 use denote.Struct.Laws as LL
-use Rattle.search.specs.declared.Record.{Record}
-use Rattle.search.proofs.Record as T
-use Rattle.search.proofs.Record.Laws as T′
+use Rattle.opening.specs.declared.Record.{Record}
+use Rattle.opening.proofs.Record as T
+use Rattle.opening.proofs.Record.Laws as T′
 use Rattle.wire.specs.Wire.{vectorsOf, wordsFrom, recordOf, recordWords}
 
 -- a record that is a value of its type has twenty slots

@@ -4,7 +4,7 @@ use Prim.Native.Nat.{ℕ}
 use lib.ListN.{getD, drop}
 use Rattle.trits.specs.declared.Vector.{Vector}
 use Rattle.codec.specs.Codec.{wordsOf}
-use Rattle.search.specs.declared.Record.{Record}
+use Rattle.opening.specs.declared.Record.{Record}
 
 -- vectors as words, high before low, and back
 unfoldable pub wordsFrom : List Vector → List ℕ

@@ -1,6 +1,6 @@
 // Records as words, and these as bytes.
 use gray::Place;
-use search::Record;
+use opening::Record;
 use trits::Vector;
 ghost use mathlib.Core.Path.{_≡_};
 ghost use lib.ListN.{length};

@@ -6,7 +6,7 @@ use native.Mathlib.Omega.{arith}
 use borrow.Author.Tests.{not-true, not-false}
 use lib.ListN.{length}
 use Rattle.search.specs.Parts.{stopFrom}
-use Rattle.search.proofs.OpenLaw.{within}
+use Rattle.opening.proofs.OpenLaw.{within}
 use Rattle.lists.proofs.PieceLaw.{Held, starts, long, at-within, own, closed, points-fit, found-fit, few, moved, again}
 use borrow.Author.Needs.{needs}
 use Rattle.lists.proofs.filled.Statement.{statement}

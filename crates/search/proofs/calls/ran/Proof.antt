@@ -3,7 +3,7 @@ use mathlib.Core.Path.{_≡_, sym, ap, subst, _∙_}
 use Prim.Native.Nat.{ℕ, _^_, _≤_, _<_}
 use native.Mathlib.Omega.{arith}
 use lib.ListN.{length, length-map}
-use Rattle.search.proofs.OpenLaw.{within, table-long}
+use Rattle.opening.proofs.OpenLaw.{within, table-long}
 use Rattle.search.proofs.RanLaw.{fits-place, ran-is}
 use borrow.Author.Needs.{needs}
 use Rattle.search.proofs.calls.ran.Statement.{statement}

@@ -4,8 +4,8 @@ use lib.ListN.{length}
 use Rattle.refusals.specs.declared.Verdict.{Verdict}
 use Rattle.refusals.specs.declared.Verdict.the-variants.{Done}
 use Rattle.refusals.specs.Refusal.{codeOf, after}
-use Rattle.search.specs.declared.Opened.{Opened}
-use Rattle.search.specs.Opened.{openedAt, openVerdict, noRecord}
+use Rattle.opening.specs.declared.Opened.{Opened}
+use Rattle.opening.specs.Opened.{openedAt, openVerdict, noRecord}
 use Rattle.wire.specs.Wire.{recordWords}
 use Rattle.wire.specs.Lent.{room}
 use Rattle.vayudrit.proofs.VerdictLaw.{code-zero}
@@ -17,7 +17,7 @@ use Rattle.vayudrit.proofs.record_calls.vayudrit_open.Reads as reads
 use Rattle.vayudrit.proofs.record_calls.vayudrit_open.Lts as lts
 use Rattle.refusals.proofs.code.Reads as code-reads
 use Rattle.wire.proofs.put_record.Reads as put-record-reads
-use Rattle.search.proofs.open.Reads as open-reads
+use Rattle.opening.proofs.open.Reads as open-reads
 use Rattle.wire.proofs.room_for.Reads as room-for-reads
 
 -- src/record_calls.rt:101:9
