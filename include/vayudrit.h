@@ -90,8 +90,8 @@ extern "C" {
  * points, in the order of the walk; the bytes after them are as they were. No zero found is no refusal.
  * Refusals: 1, 2, 3, 5, 6, 7.
  *
- * Time: a call first checks the table and the record (some microseconds), then takes nanoseconds a point. A list longer
- * than 1024 entries is filled 1024 at a time, and the record is checked again for each 1024 found.
+ * Time: a call first checks the table and the record (some microseconds), then takes nanoseconds a point. A list of any
+ * length is filled in that one call; nothing is checked again on the way.
  */
 uint64_t vayudrit_search(uint64_t n, uint64_t m, const uint8_t *table, size_t table_bytes, uint8_t *record,
                          size_t record_bytes, uint64_t budget, uint8_t *list, size_t list_bytes, uint8_t *answer,

@@ -1,10 +1,10 @@
 // A search whose list is bytes, as many as the caller likes: zeros are found a piece of words at a time and encoded into the list.
 // Table, record, budget and list are judged once; each piece goes on from the record of the one before, and together they are one call.
 // Contracts cite specs/Listed (what the whole gives) and specs/Pieces (what a piece does).
+use opening::Record;
 use refusals::Verdict;
 use search::Answer;
 use search::Outcome;
-use opening::Record;
 use walks::Report;
 use walks::Stop;
 ghost use mathlib.Core.Path.{_≡_};

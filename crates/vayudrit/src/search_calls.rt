@@ -1,9 +1,9 @@
 // The search for C, over bytes: lengths are judged, then table and record are read, and record and answer written.
+use opening::Record;
 use refusals::Refusal;
 use refusals::Verdict;
 use search::Answer;
 use search::Outcome;
-use opening::Record;
 ghost use mathlib.Core.Path.{_≡_};
 ghost use Prim.Native.Nat.{_*_, _/_, _≤_};
 ghost use lib.ListN.{length};
@@ -75,15 +75,13 @@ fn over_bytes(
     lists::search_bytes(n, m, &words[..k], r, budget, list)
 }
 
-// Writes what a call gives on a walk that ends at place `end`: the record and the answer, or with a refusal nothing.
-fn finish(end: u64, o: Outcome, record: &mut [u8], answer: &mut [u8]) -> u64
+// Writes what a call gives on a walk that ends at place `end`: the record r and the answer, or with a refusal nothing.
+fn finish(end: u64, a: Answer, r: Record, record: &mut [u8], answer: &mut [u8]) -> u64
     requires { ⌜ (length (now «record») ≡ 360) × (length (now answer) ≡ 40) ⌝ }
-    ensures { λ c. ⌜ (c ≡ answerNumber (o .answer))
-        × (now («record» .exit) ≡ recordBytes (o .answer) (o .«record») (now («record» .entry)))
-        × (now (answer .exit) ≡ answerBytes end (o .answer) (now (answer .entry))) ⌝ }
+    ensures { λ c. ⌜ (c ≡ answerNumber a)
+        × (now («record» .exit) ≡ recordBytes a r (now («record» .entry)))
+        × (now (answer .exit) ≡ answerBytes end a (now (answer .entry))) ⌝ }
 {
-    let a = o.answer;
-    let r = o.record;
     match a {
         Answer::Ran(report) => {
             wire::write_record(r, record);
@@ -119,5 +117,7 @@ pub extern "C" fn vayudrit_search(
     let end = positions::power(n);
     let mut words = [0u64; 462];
     let o = over_bytes(n, m, table, r, budget, &mut words, list);
-    finish(end, o, record, answer)
+    let said = o.answer;
+    let moved = o.record;
+    finish(end, said, moved, record, answer)
 }

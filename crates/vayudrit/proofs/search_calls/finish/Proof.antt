@@ -12,23 +12,23 @@ use Rattle.refusals.proofs.number.Reads as number-reads
 use Rattle.wire.proofs.write_answer.Reads as write-answer-reads
 use Rattle.wire.proofs.write_record.Reads as write-record-reads
 
--- src/search_calls.rt:88:21
+-- src/search_calls.rt:86:21
 enum-known-a : tie.Need-enum-known-a
 enum-known-a c = search needs
 
--- src/search_calls.rt:89:13
+-- src/search_calls.rt:87:13
 write-record-requires : tie.Need-write-record-requires
 write-record-requires c κs = search needs
 
--- src/search_calls.rt:90:13
+-- src/search_calls.rt:88:13
 write-answer-requires : tie.Need-write-answer-requires
 write-answer-requires c κs = search needs
 
--- src/search_calls.rt:93:25
+-- src/search_calls.rt:91:25
 enum-known-a-2 : tie.Need-enum-known-a-2
 enum-known-a-2 c = search needs
 
--- src/search_calls.rt:93:31
+-- src/search_calls.rt:91:31
 number-requires : tie.Need-number-requires
 number-requires c κs = search needs
 
@@ -43,20 +43,20 @@ same-length-2 c = search needs
 -- src/search_calls.rt:79:1
 returns : tie.Need-returns
 returns c =
-    let a = c .before .before .before .before .before .before .before .before .before .before .before .before .before .before .args in
+    let a = c .before .before .before .before .before .before .before .before .before .before .before .before .before .args in
     let e = c .before .before .before .before .before .before .before .before .before .a .given .1 in (
       sym (ap answerNumber e),
-      c .before .before .before .before .before .before .write-record .ensures ∙ sym (ap (λ (x : Answer). recordBytes x (a .o .«record») (a .«record» .now)) e),
+      c .before .before .before .before .before .before .write-record .ensures ∙ sym (ap (λ (x : Answer). recordBytes x (a .r) (a .«record» .now)) e),
       c .before .before .write-answer .ensures ∙ sym (ap (λ (x : Answer). answerBytes (a .end) x (a .answer .now)) e),
     )
 
 -- src/search_calls.rt:79:1
 returns-2 : tie.Need-returns-2
 returns-2 c =
-    let a = c .before .before .before .before .before .before .before .args in
+    let a = c .before .before .before .before .before .before .args in
     let e = c .before .before .a2 .given .1 in (
       c .number .ensures ∙ sym (ap answerNumber e),
-      sym (ap (λ (x : Answer). recordBytes x (a .o .«record») (a .«record» .now)) e),
+      sym (ap (λ (x : Answer). recordBytes x (a .r) (a .«record» .now)) e),
       sym (ap (λ (x : Answer). answerBytes (a .end) x (a .answer .now)) e),
     )
 
