@@ -28,7 +28,7 @@ status_of() {
 gives() {
     local wanted=$1 words=$2 status
     shift 2
-    status=$(status_of "$@")
+    status=$(status_of "$@") || fail "$*: $(head -n 3 "$out/stderr")"
     [[ $status -eq $wanted ]] || fail "$*: status $status and not $wanted: $(head -n 3 "$out/stderr")"
     if [[ -n $words ]]; then
         grep -qe "$words" "$out/stderr" || fail "$*: no words \"$words\": $(head -n 3 "$out/stderr")"
@@ -312,7 +312,7 @@ killed() {
     kill "-$1" "${whom:-$script}"
     wait "$script" || status=$?
     cp "$out/part" "$out/before"
-    [[ -z $program ]] || until_true gone "$program" || fail 'the program runs on'
+    [[ -z $program ]] || until_true gone "$program" || { kill -KILL "$program" && fail 'the program runs on'; }
     [[ $1/$2 == KILL/script ]] || cmp "$out/part" "$out/before" || fail "something is written after $1 to the $2"
     return "$status"
 }
