@@ -1,12 +1,14 @@
-/* Runs the library and the C walks on the same systems, in turn, and writes one line a run.
+/* Runs the library and the C walks on the same systems, in turn, and writes the cases of a
+ * results file (README.md has the format).
  *
- *   runner [--tiny | --quick | --long] [--seed S] [--limit SECONDS]
+ *   runner [--tiny | --quick | --long] [--seed S] [--limit SECONDS] [--rounds R]
  *
  * A run is a child process, so that a crash or a hang is a word in its line and no more. What it
  * reports is held against document 01's counts, against records worked out by the reference and
- * against the plain walk's list, whose entries the reference evaluates. A time is written only
- * if every repetition ended and agreed: it is the least processor time of them. */
+ * against the plain walk's list, whose entries the reference evaluates. Times are written only
+ * if every round ended and agreed: the processor time of each. */
 #define _DEFAULT_SOURCE /* mmap with MAP_ANONYMOUS, alarm */
+#include "format.h"
 #include "../tests/reference/interface.h"
 #include "../tests/reference/random.h"
 #include "walks.h"
@@ -22,63 +24,78 @@
 #include <unistd.h>
 
 search_function plain_gcc, unrolled_gcc, plain_clang, unrolled_clang;
+evaluate_function evaluate_gcc, evaluate_clang;
 
-/* The plain walk comes first: it is the yardstick of a row. */
-static const struct engine { const char *name; search_function *search; } engines[] = {
-    {"plain gcc", plain_gcc}, {"unrolled gcc", unrolled_gcc},
+static const struct engine { search_function *search; evaluate_function *evaluate; } engines[ENGINES] = {
+    [PLAIN] = {plain_gcc, evaluate_gcc}, [UNROLLED] = {unrolled_gcc, NULL}, /* NULL: not there */
 #ifdef HAVE_CLANG
-    {"plain clang", plain_clang}, {"unrolled clang", unrolled_clang},
+    [PLAIN_CLANG] = {plain_clang, evaluate_clang}, [UNROLLED_CLANG] = {unrolled_clang, NULL},
 #endif
-    {"vayudrit", vayudrit_search},
+    [LIBRARY] = {vayudrit_search, vayudrit_evaluate},
 };
-enum { ENGINES = sizeof engines / sizeof *engines, MOST_STARTS = 1000, SHORT_LIST = 4096 };
+/* A round: the library directly after its yardstick. */
+static const unsigned turns[ENGINES] = {PLAIN, LIBRARY, UNROLLED, PLAIN_CLANG, UNROLLED_CLANG};
+enum { BASE = 3, DEGREE = 2, MOST_STARTS = 1000, SHORT_LIST = 4096 };
 
 /* ---- rows ---- */
 
 enum mode { TINY = 1, QUICK = 2, USUAL = 4, LONG = 8 };
 
+#define EVALUATE 0     /* the budget of a row of evaluations */
 #define ALL UINT64_MAX /* no limit: of the points, or of the list but for the room for zeros */
 
-/* One job for every engine, done when the last call says "ended". Without starts: one record from
- * place 0, called with this budget and list over and over. With starts: that many records, each
- * called once; the last of them stands before the walk's last place, the others anywhere. */
+/* One job for every engine. A walk or calls are done when the last call says "ended". Without
+ * starts: one record from place 0, called with this budget and list over and over. With starts: that
+ * many records, each called once; the last of them stands before the walk's last place, the others
+ * anywhere else but at place 0. Evaluations are at so many points ("starts"), of whose unknowns so
+ * many ("list") are not 0. */
 static const struct row {
     const char *name;
     unsigned n, m;
-    const char *zeros;
+    const char *detail;
     uint64_t budget, list;
-    unsigned starts, times, modes;
+    unsigned starts, rounds, modes;
 } rows[] = {
-    {"whole walk", 7, 7, "sparse", ALL, SHORT_LIST, 0, 2, TINY},
-    {"whole walk", 7, 2, "many", ALL, ALL, 0, 2, TINY},
-    {"list of one", 7, 3, "many", ALL, 1, 0, 2, TINY},
-    {"budget of 100", 7, 7, "sparse", 100, SHORT_LIST, 0, 2, TINY},
-    {"one point a call", 20, 20, "sparse", 1, SHORT_LIST, 10, 2, TINY},
+    {"whole walk", 7, 7, "few zeros", ALL, SHORT_LIST, 0, 2, TINY},
+    {"whole walk", 7, 2, "many zeros", ALL, ALL, 0, 2, TINY},
+    {"list of one", 7, 3, "many zeros", ALL, 1, 0, 2, TINY},
+    {"budget of 100", 7, 7, "few zeros", 100, SHORT_LIST, 0, 2, TINY},
+    {"one point a call", 20, 20, "few zeros", 1, SHORT_LIST, 10, 2, TINY},
+    {"evaluation", 20, 64, "13 unknowns not 0", EVALUATE, 13, 10, 2, TINY},
 
-    {"whole walk", 12, 12, "sparse", ALL, SHORT_LIST, 0, 15, QUICK},
-    {"whole walk", 12, 2, "many", ALL, ALL, 0, 15, QUICK},
-    {"list of one", 12, 12, "sparse", ALL, 1, 0, 15, QUICK},
-    {"list of one", 8, 3, "many", ALL, 1, 0, 15, QUICK},
-    {"budget of 1000", 12, 12, "sparse", 1000, SHORT_LIST, 0, 15, QUICK},
-    {"budget of 1", 8, 8, "sparse", 1, SHORT_LIST, 0, 15, QUICK},
-    {"one point a call", 20, 20, "sparse", 1, SHORT_LIST, 200, 15, QUICK},
+    {"whole walk", 12, 12, "few zeros", ALL, SHORT_LIST, 0, 15, QUICK},
+    {"whole walk", 12, 2, "many zeros", ALL, ALL, 0, 15, QUICK},
+    {"list of one", 12, 12, "few zeros", ALL, 1, 0, 15, QUICK},
+    {"list of one", 8, 3, "many zeros", ALL, 1, 0, 15, QUICK},
+    {"budget of 1000", 12, 12, "few zeros", 1000, SHORT_LIST, 0, 15, QUICK},
+    {"budget of 1", 8, 8, "few zeros", 1, SHORT_LIST, 0, 15, QUICK},
+    {"one point a call", 20, 20, "few zeros", 1, SHORT_LIST, 200, 15, QUICK},
+    {"evaluation", 20, 64, "13 unknowns not 0", EVALUATE, 13, 200, 15, QUICK},
 
-    {"whole walk", 14, 14, "sparse", ALL, SHORT_LIST, 0, 40, USUAL | LONG},
-    {"whole walk", 15, 15, "sparse", ALL, SHORT_LIST, 0, 30, USUAL | LONG},
-    {"whole walk", 16, 16, "sparse", ALL, SHORT_LIST, 0, 20, USUAL | LONG},
-    {"whole walk", 17, 17, "sparse", ALL, SHORT_LIST, 0, 9, USUAL | LONG},
-    {"whole walk", 18, 18, "sparse", ALL, SHORT_LIST, 0, 5, USUAL | LONG},
-    {"whole walk", 20, 20, "sparse", ALL, SHORT_LIST, 0, 3, LONG},
-    {"whole walk", 14, 1, "many", ALL, ALL, 0, 30, USUAL | LONG},
-    {"whole walk", 14, 2, "many", ALL, ALL, 0, 30, USUAL | LONG},
-    {"whole walk", 16, 2, "many", ALL, ALL, 0, 9, USUAL | LONG},
-    {"whole walk", 20, 6, "many", ALL, ALL, 0, 3, LONG},
-    {"list of one", 16, 16, "sparse", ALL, 1, 0, 20, USUAL | LONG},
-    {"list of one", 10, 3, "many", ALL, 1, 0, 20, USUAL | LONG},
-    {"budget of 1000", 14, 14, "sparse", 1000, SHORT_LIST, 0, 30, USUAL | LONG},
-    {"budget of 1", 10, 10, "sparse", 1, SHORT_LIST, 0, 20, USUAL | LONG},
-    {"one point a call", 20, 20, "sparse", 1, SHORT_LIST, 1000, 30, USUAL | LONG},
+    {"whole walk", 14, 14, "few zeros", ALL, SHORT_LIST, 0, 40, USUAL | LONG},
+    {"whole walk", 15, 15, "few zeros", ALL, SHORT_LIST, 0, 30, USUAL | LONG},
+    {"whole walk", 16, 16, "few zeros", ALL, SHORT_LIST, 0, 20, USUAL | LONG},
+    {"whole walk", 17, 17, "few zeros", ALL, SHORT_LIST, 0, 9, USUAL | LONG},
+    {"whole walk", 18, 18, "few zeros", ALL, SHORT_LIST, 0, 5, USUAL | LONG},
+    {"whole walk", 20, 20, "few zeros", ALL, SHORT_LIST, 0, 3, LONG},
+    {"whole walk", 14, 1, "many zeros", ALL, ALL, 0, 30, USUAL | LONG},
+    {"whole walk", 14, 2, "many zeros", ALL, ALL, 0, 30, USUAL | LONG},
+    {"whole walk", 16, 2, "many zeros", ALL, ALL, 0, 9, USUAL | LONG},
+    {"whole walk", 20, 6, "many zeros", ALL, ALL, 0, 3, LONG},
+    {"list of one", 16, 16, "few zeros", ALL, 1, 0, 20, USUAL | LONG},
+    {"list of one", 10, 3, "many zeros", ALL, 1, 0, 20, USUAL | LONG},
+    {"budget of 1000", 14, 14, "few zeros", 1000, SHORT_LIST, 0, 30, USUAL | LONG},
+    {"budget of 1", 10, 10, "few zeros", 1, SHORT_LIST, 0, 20, USUAL | LONG},
+    {"one point a call", 20, 20, "few zeros", 1, SHORT_LIST, 1000, 30, USUAL | LONG},
+    {"evaluation", 20, 64, "20 unknowns not 0", EVALUATE, 20, 1000, 50, USUAL | LONG},
+    {"evaluation", 20, 64, "13 unknowns not 0", EVALUATE, 13, 1000, 50, USUAL | LONG},
+    {"evaluation", 20, 64, "5 unknowns not 0", EVALUATE, 5, 1000, 50, USUAL | LONG},
+    {"evaluation", 20, 64, "0 unknowns not 0", EVALUATE, 0, 1000, 50, USUAL | LONG},
 };
+
+static int job_of(const struct row *row) {
+    return row->budget == EVALUATE ? EVALUATIONS : row->starts > 0 ? CALLS : WALKS;
+}
 
 /* ---- the system of a row, and what is known of its runs before any ---- */
 
@@ -88,7 +105,8 @@ struct task {
     uint64_t end;               /* 3^n */
     uint64_t points, additions; /* of a run that does all */
     uint64_t capacity;          /* entries of room for zeros, twice as many as may be expected */
-    uint64_t table[2 * MOST_MONOMIALS];
+    uint64_t table[2 * MOST_MONOMIALS], coefficients[2 * MOST_MONOMIALS];
+    uint64_t at[MOST_STARTS]; /* the points of evaluations */
     uint64_t before[MOST_STARTS][RECORD_WORDS], after[MOST_STARTS][RECORD_WORDS];
     uint64_t found, *list;      /* the plain walk's, later */
 };
@@ -96,6 +114,15 @@ struct task {
 static void stop_bench(const char *why) {
     fprintf(stderr, "runner: %s\n", why);
     exit(1);
+}
+
+/* The random words of a row depend on seed and row alone, whatever other rows there are. */
+static void seed_row(const struct row *row, uint64_t seed) {
+    random_state = seed;
+    for (const char *c = row->name; *c != '\0'; c++)
+        random_state = random_word() ^ (unsigned char)*c;
+    random_state = random_word() ^ (row->n << 8 | row->m);
+    if (job_of(row) == EVALUATIONS) random_state += row->list;
 }
 
 static void open_at(const struct task *t, uint64_t place, uint64_t *record) {
@@ -106,12 +133,11 @@ static void open_at(const struct task *t, uint64_t place, uint64_t *record) {
 }
 
 /* The system at a point, high then low, by the reference. */
-static void value_at(const struct task *t, uint64_t point, uint64_t value[2]) {
-    uint64_t coefficients[2 * MOST_MONOMIALS];
+static void value_at(struct task *t, uint64_t point, uint64_t value[2]) {
     uint64_t n = t->row->n, m = t->row->m;
     size_t size = 2 * monomials(n);
-    if (reference_coefficients(n, m, t->table, size, coefficients, size) != 0
-        || reference_evaluate(n, m, coefficients, size, point, value, 2) != 0)
+    if (reference_coefficients(n, m, t->table, size, t->coefficients, size) != 0
+        || reference_evaluate(n, m, t->coefficients, size, point, value, 2) != 0)
         stop_bench("the reference does not evaluate the system");
 }
 
@@ -132,29 +158,59 @@ static void draw_table(struct task *t) {
     t->table[1] = value[0] ^ value[1]; /* the negative */
 }
 
-static void set_task(struct task *t, const struct row *row) {
-    t->row = row;
-    t->end = power_of_three(row->n);
+/* A point with so many unknowns that are not 0. */
+static uint64_t draw_point(unsigned n, uint64_t not_zero) {
+    uint64_t point = 0;
+    for (unsigned left = n; left > 0; left--) {
+        uint64_t taken = random_word() % left < not_zero;
+        point = 3 * point + taken * (1 + random_word() % 2);
+        not_zero -= taken;
+    }
+    return point;
+}
+
+/* Evaluations: the values by the reference are what the runs are held against. */
+static void set_evaluations(struct task *t) {
+    uint64_t value[2];
+    t->points = t->starts = t->row->starts;
+    t->additions = t->found = 0;
+    t->capacity = 2 * t->points;
+    t->list = malloc(8 * t->capacity);
+    if (t->list == NULL) stop_bench("no memory");
+    for (unsigned s = 0; s < t->starts; s++) {
+        t->at[s] = draw_point(t->row->n, t->row->list);
+        value_at(t, t->at[s], value);
+        memcpy(t->list + 2 * s, value, sizeof value);
+        t->found += value[0] == 0;
+    }
+}
+
+static void set_walk(struct task *t) {
+    const struct row *row = t->row;
     t->starts = row->starts > 0 ? row->starts : 1;
     t->points = row->starts > 0 ? row->starts : t->end;
     t->additions = row->starts > 0 ? 0 : 2 * (t->end - 1) - row->n;
     t->capacity = SHORT_LIST + (row->n > row->m ? 2 * power_of_three(row->n - row->m) : 0);
-    draw_table(t);
+    t->list = NULL;
     open_at(t, 0, t->before[0]);
     open_at(t, t->end, t->after[0]);
     for (unsigned s = 0; s < row->starts; s++) {
-        uint64_t place = s + 1 < row->starts ? random_word() % (t->end - 1) : t->end - 1;
+        uint64_t place = s + 1 < row->starts ? 1 + random_word() % (t->end - 2) : t->end - 1;
         open_at(t, place, t->before[s]);
         open_at(t, place + 1, t->after[s]);
         t->additions += cost_of(place);
     }
 }
 
-/* ---- one run, in a child ---- */
+static void set_task(struct task *t, const struct row *row) {
+    t->row = row;
+    t->end = power_of_three(row->n);
+    draw_table(t);
+    if (job_of(row) == EVALUATIONS) set_evaluations(t);
+    else set_walk(t);
+}
 
-enum { REFUSED = SPENT + 1, MISCOUNTED, CRASHED, TIMED_OUT }; /* after the three stops */
-static const char *const words[] = {"ended", "full", "spent", "refused", "miscounted", "crashed",
-                                    "timed out"};
+/* ---- one run, in a child ---- */
 
 /* What a run reports, shared with its child. It has crashed unless it says otherwise. */
 struct report {
@@ -176,13 +232,13 @@ static int call(const struct task *t, search_function *search, uint64_t *record,
     r->refusal = search(row->n, row->m, (const uint8_t *)t->table, 16 * monomials(row->n),
                         (uint8_t *)record, 8 * RECORD_WORDS, row->budget,
                         (uint8_t *)(r->list + r->found), 8 * length, (uint8_t *)answer, 40);
-    if (r->refusal != 0) return REFUSED;
+    if (r->refusal != 0) return RUN_REFUSED;
     r->points += answer[ANSWER_POINTS];
     r->additions += answer[ANSWER_ADDITIONS];
     if (answer[ANSWER_FOUND] > length || answer[ANSWER_PLACE] != record[RECORD_PLACE]
         || answer[ANSWER_PLACE] != from + answer[ANSWER_POINTS] || answer[ANSWER_STOP] > SPENT
         || (answer[ANSWER_STOP] == ENDED) != (answer[ANSWER_PLACE] == t->end))
-        return MISCOUNTED;
+        return RUN_MISCOUNTED;
     r->found += answer[ANSWER_FOUND];
     return (int)answer[ANSWER_STOP];
 }
@@ -194,6 +250,18 @@ static int goes_on(const struct task *t, const struct report *r, int stop, uint6
     const struct row *row = t->row;
     if (r->found == t->capacity) return 0;
     return (stop == FULL && found == row->list) || (stop == SPENT && points == row->budget);
+}
+
+/* Evaluates at all points; the values go where a walk has its list. */
+static int evaluate(const struct task *t, evaluate_function *evaluate, struct report *r) {
+    for (unsigned s = 0; s < t->starts; s++) {
+        uint64_t *value = r->list + 2 * s;
+        r->refusal = evaluate(t->row->n, t->row->m, t->coefficients, 2 * monomials(t->row->n), t->at[s], value, 2);
+        if (r->refusal != 0) return RUN_REFUSED;
+        r->points++;
+        r->found += value[0] == 0;
+    }
+    return RUN_ENDED;
 }
 
 /* A whole run; the word for how it ended. */
@@ -212,12 +280,16 @@ static int walk(const struct task *t, search_function *search, struct report *r)
 }
 
 /* One point on copies, so that the engine's code is in memory before the clock starts. */
-static void warm_up(const struct task *t, search_function *search) {
+static void warm_up(const struct task *t, const struct engine *engine) {
     const struct row *row = t->row;
-    uint64_t record[RECORD_WORDS], list[1], answer[ANSWER_WORDS];
+    uint64_t record[RECORD_WORDS], list[2], answer[ANSWER_WORDS];
+    if (job_of(row) == EVALUATIONS) {
+        engine->evaluate(row->n, row->m, t->coefficients, 2 * monomials(row->n), t->at[0], list, 2);
+        return;
+    }
     memcpy(record, t->before[0], sizeof record);
-    search(row->n, row->m, (const uint8_t *)t->table, 16 * monomials(row->n), (uint8_t *)record,
-           sizeof record, 1, (uint8_t *)list, sizeof list, (uint8_t *)answer, sizeof answer);
+    engine->search(row->n, row->m, (const uint8_t *)t->table, 16 * monomials(row->n), (uint8_t *)record,
+                   sizeof record, 1, (uint8_t *)list, sizeof list, (uint8_t *)answer, sizeof answer);
 }
 
 static double now(void) {
@@ -226,28 +298,28 @@ static double now(void) {
     return 1e9 * (double)t.tv_sec + (double)t.tv_nsec;
 }
 
-static void run(const struct task *t, search_function *search, struct report *r, unsigned limit) {
+static void run(const struct task *t, const struct engine *engine, struct report *r, unsigned limit) {
     pid_t child;
     int end;
     memset(r, 0, sizeof *r);
-    r->status = CRASHED;
+    r->status = RUN_CRASHED;
     fflush(NULL);
     if ((child = fork()) == 0) {
         double start;
         int status;
         alarm(limit);
-        memcpy(r->record, t->before, t->starts * sizeof *r->record);
+        if (job_of(t->row) != EVALUATIONS) memcpy(r->record, t->before, t->starts * sizeof *r->record);
         for (uint64_t k = 0; k < t->capacity; k++) /* also brings the pages in before the clock */
             r->list[k] = untouched;
-        warm_up(t, search);
+        warm_up(t, engine);
         start = now();
-        status = walk(t, search, r);
+        status = job_of(t->row) == EVALUATIONS ? evaluate(t, engine->evaluate, r) : walk(t, engine->search, r);
         r->ns = now() - start;
         r->status = status;
         _exit(0);
     }
     if (child < 0 || waitpid(child, &end, 0) != child) stop_bench("no child process");
-    if (WIFSIGNALED(end)) r->status = WTERMSIG(end) == SIGALRM ? TIMED_OUT : CRASHED;
+    if (WIFSIGNALED(end)) r->status = WTERMSIG(end) == SIGALRM ? RUN_TIMED_OUT : RUN_CRASHED;
 }
 
 /* ---- judging ---- */
@@ -262,6 +334,9 @@ static int counts_agree(const struct task *t, const struct report *r) {
 }
 
 static int agrees(const struct task *t, const struct report *r) {
+    if (job_of(t->row) == EVALUATIONS)
+        return r->points == t->points && r->additions == 0 && r->found == t->found
+               && memcmp(r->list, t->list, 8 * t->capacity) == 0;
     return counts_agree(t, r) && r->found == t->found
            && memcmp(r->list, t->list, r->found * sizeof *t->list) == 0;
 }
@@ -286,77 +361,111 @@ static void take_yardstick(struct task *t, const struct report *r) {
 
 /* ---- rows and lines ---- */
 
-/* The run of an engine, over its repetitions: the least time, or the first that went wrong. */
-struct result { int status; uint64_t refusal, points, additions, found; double ns; };
+/* The runs of an engine over its rounds: their times, or the first that went wrong. */
+struct result { int status; uint64_t refusal, points, additions, found; double ns[MOST_ROUNDS]; };
 
-static void repeat(const struct task *t, search_function *search, struct report *r,
-                   struct result *result, unsigned limit) {
-    if (result->status != ENDED) return;
-    run(t, search, r, limit);
-    if (r->status == ENDED && !agrees(t, r)) r->status = MISCOUNTED;
-    if (r->status == ENDED && result->ns > 0 && result->ns <= r->ns) return;
-    *result = (struct result){r->status, r->refusal, r->points, r->additions, r->found, r->ns};
+static void run_round(const struct task *t, const struct engine *engine, struct report *r,
+                      struct result *result, unsigned round, unsigned limit) {
+    if (result->status != RUN_ENDED) return;
+    run(t, engine, r, limit);
+    if (r->status == RUN_ENDED && !agrees(t, r)) r->status = RUN_MISCOUNTED;
+    result->status = r->status;
+    result->refusal = r->refusal;
+    result->points = r->points, result->additions = r->additions, result->found = r->found;
+    result->ns[round] = r->ns;
 }
 
 /* A refused run has no counts, nor has one that did not come back. */
-static void print_result(const struct task *t, const char *engine, const struct result *result) {
-    const struct row *row = t->row;
-    int counted = result->status <= SPENT || result->status == MISCOUNTED;
-    printf("%s\t%u\t%u\t%s\t%" PRIu64 "\t%s\t%s", row->name, row->n, row->m, row->zeros, t->points,
-           engine, words[result->status]);
-    if (result->status == REFUSED) printf(" %" PRIu64, result->refusal);
-    if (counted)
-        printf("\t%" PRIu64 "\t%" PRIu64 "\t%" PRIu64, result->points, result->additions,
-               result->found);
-    else
-        printf("\t\t\t");
-    if (result->status == ENDED)
-        printf("\t%.4f\n", result->ns / (double)result->points);
-    else
-        printf("\t\n");
+static void print_result(const char *engine, const struct result *result, unsigned rounds) {
+    printf("run\t%s\t%s", engine, status_words[result->status]);
+    if (result->status == RUN_REFUSED) printf(" %" PRIu64, result->refusal);
+    putchar('\n');
+    if (result->status <= RUN_SPENT || result->status == RUN_MISCOUNTED)
+        printf("points\t%" PRIu64 "\nadditions\t%" PRIu64 "\nfound\t%" PRIu64 "\n", result->points,
+               result->additions, result->found);
+    if (result->status != RUN_ENDED) return;
+    fputs("times", stdout);
+    for (unsigned k = 0; k < rounds; k++)
+        printf("\t%.4f", result->ns[k] / (double)result->points);
+    putchar('\n');
 }
 
-static void run_row(const struct row *row, unsigned limit) {
+static int has_job(const struct engine *engine, const struct row *row) {
+    return job_of(row) == EVALUATIONS ? engine->evaluate != NULL : engine->search != NULL;
+}
+
+static void print_row(const struct task *t, const struct result *results, unsigned rounds) {
+    const struct row *row = t->row;
+    printf("case\t%s\t%s\t%d\t%d\t%u\t%u\t%s\t%" PRIu64 "\t%u\n", row->name,
+           job_names[job_of(row)], BASE, DEGREE, row->n, row->m, row->detail,
+           t->points, rounds);
+    for (unsigned k = 0; k < ENGINES; k++)
+        if (has_job(&engines[k], row)) print_result(engine_names[k], &results[k], rounds);
+    if (fflush(stdout) != 0) stop_bench("the results cannot be written");
+}
+
+struct options { unsigned mode, limit, rounds; uint64_t seed; };
+
+static void run_row(const struct row *row, const struct options *o) {
     static struct task t;
-    struct result results[ENGINES] = {{0}};
+    static struct result results[ENGINES];
+    unsigned rounds = o->rounds > 0 ? o->rounds : row->rounds;
     struct report *r;
     size_t size;
+    memset(results, 0, sizeof results);
+    seed_row(row, o->seed);
     set_task(&t, row);
     size = sizeof *r + 8 * t.capacity;
     r = mmap(NULL, size, PROT_READ | PROT_WRITE, MAP_SHARED | MAP_ANONYMOUS, -1, 0);
     if (r == MAP_FAILED) stop_bench("no memory");
-    run(&t, engines[0].search, r, limit);
-    take_yardstick(&t, r);
-    for (unsigned k = 0; k < row->times * ENGINES; k++)
-        repeat(&t, engines[k % ENGINES].search, r, &results[k % ENGINES], limit);
-    for (unsigned k = 0; k < ENGINES; k++)
-        print_result(&t, engines[k].name, &results[k]);
+    if (job_of(row) != EVALUATIONS) {
+        run(&t, &engines[PLAIN], r, o->limit);
+        take_yardstick(&t, r);
+    }
+    for (unsigned k = 0; k < rounds * ENGINES; k++) {
+        unsigned engine = turns[k % ENGINES];
+        if (has_job(&engines[engine], row))
+            run_round(&t, &engines[engine], r, &results[engine], k / ENGINES, o->limit);
+    }
+    print_row(&t, results, rounds);
     free(t.list);
     munmap(r, size);
 }
 
-static unsigned number_of(const char *text) {
-    char *end;
-    unsigned long number = text != NULL ? strtoul(text, &end, 10) : 0;
-    if (text == NULL || *text == '\0' || *end != '\0') stop_bench("an option lacks its number");
-    return (unsigned)number;
+static uint64_t number_of(const char *text, uint64_t least, uint64_t most) {
+    size_t digits = text != NULL ? strspn(text, "0123456789") : 0;
+    uint64_t number = digits > 0 && digits < 19 ? strtoull(text, NULL, 10) : UINT64_MAX;
+    if (digits == 0 || text[digits] != '\0' || number < least || number > most)
+        stop_bench("an option lacks its number: --seed 0 to 10^18 - 1, --limit 1 to 86400, --rounds 1 to 200");
+    return number;
+}
+
+static struct options read_options(int count, char **given) {
+    struct options o = {USUAL, 600, 0, 0};
+    for (int k = 1; k < count; k++) {
+        if (strcmp(given[k], "--tiny") == 0) o.mode = TINY;
+        else if (strcmp(given[k], "--quick") == 0) o.mode = QUICK;
+        else if (strcmp(given[k], "--long") == 0) o.mode = LONG;
+        else if (strcmp(given[k], "--seed") == 0) o.seed = number_of(given[++k], 0, UINT64_MAX - 1);
+        else if (strcmp(given[k], "--limit") == 0) o.limit = (unsigned)number_of(given[++k], 1, 86400);
+        else if (strcmp(given[k], "--rounds") == 0)
+            o.rounds = (unsigned)number_of(given[++k], 1, MOST_ROUNDS);
+        else
+            stop_bench("usage: runner [--tiny | --quick | --long] [--seed S] [--limit SECONDS] [--rounds R]");
+    }
+    return o;
 }
 
 int main(int count, char **given) {
-    unsigned mode = USUAL, limit = 600;
-    for (int k = 1; k < count; k++) {
-        if (strcmp(given[k], "--tiny") == 0) mode = TINY;
-        else if (strcmp(given[k], "--quick") == 0) mode = QUICK;
-        else if (strcmp(given[k], "--long") == 0) mode = LONG;
-        else if (strcmp(given[k], "--seed") == 0) random_state = number_of(given[++k]);
-        else if (strcmp(given[k], "--limit") == 0) limit = number_of(given[++k]);
-        else stop_bench("usage: runner [--tiny | --quick | --long] [--seed S] [--limit SECONDS]");
-    }
-    puts("name\tn\tm\tzeros\tasked\tengine\tstatus\tpoints\tadditions\tfound\tns_per_point");
+    struct options o = read_options(count, given);
+    unsigned done = 0;
     for (const struct row *row = rows; row < rows + sizeof rows / sizeof *rows; row++) {
-        if ((row->modes & mode) == 0) continue;
+        if ((row->modes & o.mode) == 0) continue;
         fprintf(stderr, "%s, n = %u, m = %u\n", row->name, row->n, row->m);
-        run_row(row, limit);
+        run_row(row, &o);
+        done++;
     }
+    printf("end\t%u\n", done);
+    if (fflush(stdout) != 0 || fclose(stdout) != 0) stop_bench("the results cannot be written");
     return 0;
 }

@@ -1,26 +1,30 @@
-/* A stand-in for the library: the plain walk behind its interface, so that the benchmark can be
- * tried without it. Compiled with -DFAULT=K it carries a fault; the runner has to say in words
- * what came of it. Each fault stands beside the word. */
+/* A stand-in for the library: the plain walk and evaluation behind its interface, so that the
+ * benchmark can be tried without it. Compiled with -DFAULT=K it carries a fault; the runner has to
+ * say in words what came of it. Beside each fault stand the words of a walk and of evaluations. */
+#define WALK stub_walk
+#define EVALUATE stub_evaluate
 #include "plain.c"
+#include "evaluate.c"
 #include "../tests/reference/interface.h"
 
 #include <stdlib.h>
 
 enum fault {
-    GIVES_UP = 1,      /* spent */
-    FILLS_UP,          /* full */
-    REFUSES,           /* refused 5 */
-    GIVES_UP_AS_ENDED, /* miscounted */
-    NO_POINTS,         /* miscounted */
-    CLAIMS_ALL,        /* miscounted */
-    ONE_ADDITION_LESS, /* miscounted */
-    ONE_ZERO_LESS,     /* miscounted */
-    WRONG_ZERO,        /* miscounted */
-    ENTRY_PAST_FOUND,  /* miscounted */
-    STALE_RECORD,      /* miscounted */
-    ABORTS,            /* crashed */
-    LEAVES,            /* crashed */
-    HANGS              /* timed out */
+    GIVES_UP = 1,      /* spent, ended */
+    FILLS_UP,          /* full, ended */
+    REFUSES,           /* refused 5, refused 5 */
+    GIVES_UP_AS_ENDED, /* miscounted, ended */
+    NO_POINTS,         /* miscounted, ended */
+    CLAIMS_ALL,        /* miscounted, ended */
+    ONE_ADDITION_LESS, /* miscounted, ended */
+    ONE_ZERO_LESS,     /* miscounted, ended */
+    WRONG_ZERO,        /* miscounted, ended */
+    ENTRY_PAST_FOUND,  /* miscounted, ended */
+    STALE_RECORD,      /* miscounted, ended */
+    ABORTS,            /* crashed, crashed */
+    LEAVES,            /* crashed, crashed */
+    HANGS,             /* timed out, ended */
+    WRONG_VALUE        /* ended, miscounted */
 };
 
 uint64_t vayudrit_search(uint64_t n, uint64_t m, const uint8_t *table, size_t table_len,
@@ -44,5 +48,15 @@ uint64_t vayudrit_search(uint64_t n, uint64_t m, const uint8_t *table, size_t ta
     if (FAULT == ENTRY_PAST_FOUND && 8 * word[ANSWER_FOUND] < list_len) list[8 * word[ANSWER_FOUND]] = 0;
     if (FAULT == STALE_RECORD && word[ANSWER_PLACE] == end) record[8 * RECORD_VALUE] ^= 1;
     memcpy(answer, word, sizeof word);
+    return 0;
+}
+
+uint64_t vayudrit_evaluate(uint64_t n, uint64_t m, const uint64_t *coefficients, size_t coefficients_len,
+                           uint64_t point, uint64_t *value, size_t value_len) {
+    if (FAULT == REFUSES) return 5;
+    if (FAULT == ABORTS) abort();
+    if (FAULT == LEAVES) exit(0);
+    EVALUATE(n, m, coefficients, coefficients_len, point, value, value_len);
+    if (FAULT == WRONG_VALUE) value[0] ^= 1;
     return 0;
 }

@@ -1,4 +1,4 @@
-/* What the two C walks share: vectors of trits, the record, and document 01's rule of examining
+/* What the C walks and the C evaluation share: vectors of trits, the record, and document 01's rule of examining
  * a place. They check nothing that they are lent; the library does. Bytes are read as words in
  * place, so the machine must store the lowest byte first. */
 #ifndef BENCH_WALKS_H
@@ -13,6 +13,10 @@ typedef uint64_t search_function(uint64_t n, uint64_t m, const uint8_t *table, s
                                  uint8_t *record, size_t record_len, uint64_t budget,
                                  uint8_t *list, size_t list_len,
                                  uint8_t *answer, size_t answer_len);
+
+/* An evaluation at a point, with the parameters of vayudrit_evaluate. */
+typedef uint64_t evaluate_function(uint64_t n, uint64_t m, const uint64_t *coefficients, size_t coefficients_len,
+                                   uint64_t point, uint64_t *value, size_t value_len);
 
 /* Up to 64 trits: 0 is 00, 1 is 10, 2 is 11, high first. */
 typedef struct { uint64_t high, low; } vector;

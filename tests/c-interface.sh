@@ -7,11 +7,15 @@ trap 'rm -rf "$out"' EXIT
 rt staticlib vayudrit
 lib=target/staticlib/libvayudrit.a
 
-# What it asks of the program that links it: memcpy, memset and nothing else.
-if nm -u "$lib" | grep -v -e ':$' -e '^$' -e ' memcpy$' -e ' memset$' -e ' memmove$' -e ' memcmp$' -e ' bcmp$'; then
-    echo "undefined symbols" >&2
+# What it asks of the program that links it: memcpy and memset, as the header says, and nothing else.
+if nm -u "$lib" | awk 'NF == 2 { print $2 }' | grep -v -x -e memcpy -e memset; then
+    echo "undefined symbols that the header excludes" >&2
     exit 1
 fi
+
+# What it gives: the functions that the header declares, all of them and nothing else.
+sed -n 's/^uint64_t \(vayudrit_[a-z_]*\)(.*/\1/p' include/vayudrit.h | sort >"$out/declared"
+nm -g --defined-only "$lib" | awk 'NF == 3 { print $3 }' | sort | diff "$out/declared" -
 
 warn="-O2 -Wall -Wextra -Werror -pedantic -Iinclude"
 gcc -std=c99 $warn examples/first.c "$lib" -o "$out/first"

@@ -163,10 +163,10 @@ value-bytes (suc k) w h =
     let q : w / 256 < 256 ^ k = omega (arith, p) in
     value-cons (w % 256) (bytesOf k (w / 256)) ∙ ap (λ (n : ℕ). w % 256 + 256 * n) (value-bytes k (w / 256) q) ∙ omega arith
 
-below-tail : (m b : ℕ) (bs : List ℕ) → AllBelow m (b ∷ bs) → AllBelow m bs
+pub below-tail : (m b : ℕ) (bs : List ℕ) → AllBelow m (b ∷ bs) → AllBelow m bs
 below-tail m b bs h = record { each = λ i l. h .each (suc i) (omega (arith, l)) }
 
-below-drop : (m k : ℕ) (l : List ℕ) → AllBelow m l → AllBelow m (drop k l)
+pub below-drop : (m k : ℕ) (l : List ℕ) → AllBelow m l → AllBelow m (drop k l)
 below-drop m k l h = record { each = λ i j. subst (λ (n : ℕ). n < m) (sym (getD-drop k l i 0)) (h .each (k + i) (omega (arith, j, length-drop k l))) }
 
 below-take : (m k : ℕ) (l : List ℕ) → AllBelow m l → AllBelow m (take k l)

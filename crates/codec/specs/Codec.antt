@@ -22,6 +22,10 @@ unfoldable pub wordsOf : ℕ → List ℕ → List ℕ
 wordsOf zero b = []
 wordsOf (suc k) b = valueOf (take 8 b) ∷ wordsOf k (drop 8 b)
 
+-- all the words of bytes
+abbrev pub wordsIn : List ℕ → List ℕ
+wordsIn b = wordsOf (length b / 8) b
+
 -- the bytes of words
 unfoldable pub bytesFrom : List ℕ → List ℕ
 bytesFrom [] = []

@@ -1,7 +1,3 @@
-pub mod ReturnLaw
+pub mod ShapeLaw
 pub mod ReadLaw
-pub mod WriteLaw
 pub mod SoundLaw
-pub mod AnswerLaw
-pub mod ColourLaw
-pub mod CaseLaw

@@ -1,4 +1,4 @@
--- A text is its first line and the text after it; the reader's own structs step as the states do.
+-- The structs that hold a graph while it is read step as the states do.
 use mathlib.Core.Path.{_≡_, refl, sym, ap, ap₂, _∙_}
 use mathlib.Core.Bool.{Bool, true, false}
 use mathlib.Core.List.{List, [], _∷_, _++_}
@@ -11,60 +11,17 @@ use lib.Dec.{eqb, ltb, leb}
 use lib.ListN.{length, getD, take, drop, set, length-append, List·getD-append}
 use lib.Seq.{drop-cons, drop-drop, getD-set-same, getD-set-other, getD-at}
 use borrow.Author.Tests.{eq-eqb, ne-eqb, lt-ltb, le-ltb, ltb-false, leb-false, eqb-false}
-use Rattle.graphs.specs.declared.GraphFault.{GraphFault}
-use Rattle.graphs.specs.declared.GraphFault.the-variants as why
-use Rattle.graphs.specs.declared.reading.Finding.{Finding}
-use Rattle.graphs.specs.declared.reading.Finding.the-variants.{Fine, Fault}
-use Rattle.lines.specs.declared.Shape.{Shape}
-use Rattle.lines.specs.declared.Shape.the-variants.{Comment, Problem, Edge, Unknown}
-use Rattle.lines.specs.Lines.{firstOf, shapeOf}
-use Rattle.graphs.specs.Reading.{grow, linesOf, Ends, State, start, declared, Turn, on, stop, fault, problemFault, edgeFault, carry, takeLine, graph, refused, endOf, readLines}
-use Rattle.graphs.specs.Equations.{noEnds}
-use Rattle.graphs.specs.Answers.{endsOf, stateIn, foundOf, isFault}
-use Rattle.lines.proofs.LineLaw.{first-stop, first-more}
-
--- ---- lines
-lines-feed : (x : ℕ) (t : List ℕ) → x ≡ 10 → linesOf (x ∷ t) ≡ [] ∷ linesOf t
-unfolding linesOf
-lines-feed x t e = rw (eq-eqb x 10 e, linesOf)
-
-lines-byte : (x : ℕ) (t : List ℕ) → (x ≡ 10 → ⊥) → linesOf (x ∷ t) ≡ grow x (linesOf t)
-unfolding linesOf
-lines-byte x t d = rw (ne-eqb x 10 d, linesOf)
-
--- the first line and the text after it, for a text whose first line has f bytes
-abbrev Split : List ℕ → ℕ → Type 0
-Split t f = linesOf t ≡ take f t ∷ linesOf (drop (f + 1) t)
-
-split-more : (x : ℕ) (t : List ℕ) → (x ≡ 10 → ⊥) → Split t (firstOf 10 t) → Split (x ∷ t) (suc (firstOf 10 t))
-split-more x t d e =
-    let p : suc (firstOf 10 t) + 1 ≡ suc (firstOf 10 t + 1) = omega arith in
-    rw p (lines-byte x t d ∙ ap (grow x) e)
-
-split-last : (x : ℕ) → (x ≡ 10 → ⊥) → Split (x ∷ []) (suc (firstOf 10 []))
-unfolding firstOf linesOf
-split-last x d = lines-byte x [] d
-
-pub lines-split : (x : ℕ) (t : List ℕ) → Split (x ∷ t) (firstOf 10 (x ∷ t))
-lines-split x [] =
-    by-cases (ℕ-discrete x 10) (λ e. rw (first-stop 10 x [] e) (lines-feed x [] e)) (λ d. rw (first-more 10 x [] d) (split-last x d))
-lines-split x (y ∷ t) =
-    by-cases (ℕ-discrete x 10) (λ e. rw (first-stop 10 x (y ∷ t) e) (lines-feed x (y ∷ t) e))
-    (λ d. rw (first-more 10 x (y ∷ t) d) (split-more x (y ∷ t) d (lines-split y t)))
-
--- the same for what is left of a text from a place on
-pub lines-at : (s : List ℕ) (i f : ℕ) → i < length s → f ≡ firstOf 10 (drop i s) → linesOf (drop i s) ≡ take (i + f - i) (drop i s) ∷ linesOf (drop (i + f + 1) s)
-lines-at s i f h e =
-    let p : i + f - i ≡ f = omega arith in
-    let q : i + f + 1 ≡ i + (f + 1) = omega arith in
-    let d : drop i s ≡ getD s i 0 ∷ drop (suc i) s = drop-cons s i 0 h in
-    let w : linesOf (drop i s) ≡ take (firstOf 10 (drop i s)) (drop i s) ∷ linesOf (drop (firstOf 10 (drop i s) + 1) (drop i s)) =
-    rw d (lines-split (getD s i 0) (drop (suc i) s)) in
-    rw (p, q, ← drop-drop (f + 1) i s, e) w
-
-pub lines-none : linesOf [] ≡ []
-unfolding linesOf
-lines-none = refl
+use Rattle.refusals.specs.declared.Refusal.{Refusal}
+use Rattle.refusals.specs.declared.Refusal.the-variants as why
+use Rattle.refusals.specs.declared.Verdict.{Verdict}
+use Rattle.refusals.specs.declared.Verdict.the-variants.{Done, Refused}
+use Rattle.refusals.proofs.RefusalLaw.{done-test, done-next}
+use Rattle.graphs.specs.declared.shapes.Shape.{Shape}
+use Rattle.graphs.specs.declared.shapes.Shape.the-variants.{Comment, Problem, Edge, Unknown}
+use Rattle.graphs.specs.Shapes.{shapeOf}
+use Rattle.graphs.specs.Reading.{verticesMost, edgesMost, Ends, State, start, declared, Turn, on, stop, problemFault, edgeFault, carry, takeLine, graph, refused, endOf, readLines}
+use Rattle.graphs.specs.Drawn.{noEnds}
+use Rattle.graphs.specs.Scans.{endsOf, stateIn, foundOf, isRefused}
 
 -- ---- reading on
 pub read-none : (k : ℕ) (s : State) → readLines k s [] ≡ endOf s
@@ -75,7 +32,7 @@ pub read-go : (k : ℕ) (s s′ : State) (l : List ℕ) (ls : List (List ℕ)) �
 unfolding readLines
 read-go k s s′ l ls e = rw (add-one k, e, readLines)
 
-pub read-stop : (k : ℕ) (s : State) (r : GraphFault) (l : List ℕ) (ls : List (List ℕ)) → takeLine s (shapeOf l) ≡ stop r → readLines k s (l ∷ ls) ≡ refused r k
+pub read-stop : (k : ℕ) (s : State) (r : Refusal) (l : List ℕ) (ls : List (List ℕ)) → takeLine s (shapeOf l) ≡ stop r → readLines k s (l ∷ ls) ≡ refused r k
 unfolding readLines
 read-stop k s r l ls e = rw (e, readLines)
 
@@ -129,16 +86,16 @@ module _ {q : Bool} (v e : ℕ) (es : List Ends) where
   pub second-problem : q ≡ true → (v′ e′ : ℕ) → stop why.Order ≡ takeLine (stateIn q v e es) (Problem v′ e′)
   second-problem h v′ e′ = rw h (sym (problem-again v e es v′ e′))
 
-  pub first-problem : q ≡ false → {f : Finding} (v′ e′ : ℕ) → problemFault v′ e′ ≡ f → carry f (declared v′ e′ []) ≡ takeLine (stateIn q v e es) (Problem v′ e′)
-  first-problem h v′ e′ w = rw h (sym (problem-first v′ e′ ∙ ap (λ (g : Finding). carry g (declared v′ e′ [])) w))
+  pub first-problem : q ≡ false → {f : Verdict} (v′ e′ : ℕ) → problemFault v′ e′ ≡ f → carry f (declared v′ e′ []) ≡ takeLine (stateIn q v e es) (Problem v′ e′)
+  first-problem h v′ e′ w = rw h (sym (problem-first v′ e′ ∙ ap (λ (g : Verdict). carry g (declared v′ e′ [])) w))
 
   pub early-edge : q ≡ false → (a b : ℕ) → stop why.Order ≡ takeLine (stateIn q v e es) (Edge a b)
   early-edge h a b = rw h (sym (edge-early a b))
 
-  pub later-edge : q ≡ true → {f : Finding} (a b : ℕ) → edgeFault v e (length es) a b ≡ f
+  pub later-edge : q ≡ true → {f : Verdict} (a b : ℕ) → edgeFault v e (length es) a b ≡ f
       → carry f (declared v e (es ++ (record { one = a; other = b } ∷ []))) ≡ takeLine (stateIn q v e es) (Edge a b)
   later-edge h a b w =
-      rw h (sym (edge-next v e es a b ∙ ap (λ (g : Finding). carry g (declared v e (es ++ (record { one = a; other = b } ∷ [])))) w))
+      rw h (sym (edge-next v e es a b ∙ ap (λ (g : Verdict). carry g (declared v e (es ++ (record { one = a; other = b } ∷ [])))) w))
 
   -- the end
   pub end-early : q ≡ false → refused why.Order 0 ≡ endOf (stateIn q v e es)
@@ -161,33 +118,22 @@ module _ {q : Bool} (v e : ℕ) (es : List Ends) where
       rw (h, le-ltb (length es) e k, le-ltb e (length es) j)
 
 -- ---- what is not refused
-never : (r : GraphFault) → Fault r ≡ Fine → ⊥
-never r e = let z : _≡_ {A = ℕ} 0 1 = cc in omega arith
-
-pub fine-test : (b : Bool) (r : GraphFault) (f : Finding) → fault b r f ≡ Fine → b ≡ false
-fine-test true r f e = absurd (never r e)
-fine-test false r f e = refl
-
-pub fine-next : (b : Bool) (r : GraphFault) (f : Finding) → fault b r f ≡ Fine → f ≡ Fine
-fine-next true r f e = absurd (never r e)
-fine-next false r f e = e
-
 pub record Declares (v e : ℕ) : Type 0 where
   pub v-least : 1 ≤ v
-  pub v-most : v ≤ 20
+  pub v-most : v ≤ verticesMost
   pub e-least : 1 ≤ e
-  pub e-most : e ≤ 64
+  pub e-most : e ≤ edgesMost
 
-pub problem-fine : (v e : ℕ) → problemFault v e ≡ Fine → Declares v e
+pub problem-fine : (v e : ℕ) → problemFault v e ≡ Done → Declares v e
 problem-fine v e h =
-    let h2 = fine-next (ltb v 1) _ _ h in
-    let h3 = fine-next (ltb 20 v) _ _ h2 in
-    let h4 = fine-next (ltb e 1) _ _ h3 in
+    let h2 = done-next (ltb v 1) _ _ h in
+    let h3 = done-next (ltb verticesMost v) _ _ h2 in
+    let h4 = done-next (ltb e 1) _ _ h3 in
     record {
-      v-least = ltb-false _ _ (fine-test (ltb v 1) _ _ h);
-      v-most = ltb-false _ _ (fine-test (ltb 20 v) _ _ h2);
-      e-least = ltb-false _ _ (fine-test (ltb e 1) _ _ h3);
-      e-most = ltb-false _ _ (fine-test (ltb 64 e) _ _ h4);
+      v-least = ltb-false _ _ (done-test (ltb v 1) _ _ h);
+      v-most = ltb-false _ _ (done-test (ltb verticesMost v) _ _ h2);
+      e-least = ltb-false _ _ (done-test (ltb e 1) _ _ h3);
+      e-most = ltb-false _ _ (done-test (ltb edgesMost e) _ _ h4);
     }
 
 pub record Fitting (v e k a b : ℕ) : Type 0 where
@@ -198,31 +144,31 @@ pub record Fitting (v e k a b : ℕ) : Type 0 where
   pub other-most : b ≤ v
   pub apart : a ≡ b → ⊥
 
-pub edge-fine : (v e k a b : ℕ) → edgeFault v e k a b ≡ Fine → Fitting v e k a b
+pub edge-fine : (v e k a b : ℕ) → edgeFault v e k a b ≡ Done → Fitting v e k a b
 edge-fine v e k a b h =
-    let h2 = fine-next (leb e k) _ _ h in
-    let h3 = fine-next (ltb a 1) _ _ h2 in
-    let h4 = fine-next (ltb v a) _ _ h3 in
-    let h5 = fine-next (ltb b 1) _ _ h4 in
-    let h6 = fine-next (ltb v b) _ _ h5 in
+    let h2 = done-next (leb e k) _ _ h in
+    let h3 = done-next (ltb a 1) _ _ h2 in
+    let h4 = done-next (ltb v a) _ _ h3 in
+    let h5 = done-next (ltb b 1) _ _ h4 in
+    let h6 = done-next (ltb v b) _ _ h5 in
     record {
-      room = leb-false _ _ (fine-test (leb e k) _ _ h);
-      one-least = ltb-false _ _ (fine-test (ltb a 1) _ _ h2);
-      one-most = ltb-false _ _ (fine-test (ltb v a) _ _ h3);
-      other-least = ltb-false _ _ (fine-test (ltb b 1) _ _ h4);
-      other-most = ltb-false _ _ (fine-test (ltb v b) _ _ h5);
-      apart = eqb-false _ _ (fine-test (eqb a b) _ _ h6);
+      room = leb-false _ _ (done-test (leb e k) _ _ h);
+      one-least = ltb-false _ _ (done-test (ltb a 1) _ _ h2);
+      one-most = ltb-false _ _ (done-test (ltb v a) _ _ h3);
+      other-least = ltb-false _ _ (done-test (ltb b 1) _ _ h4);
+      other-most = ltb-false _ _ (done-test (ltb v b) _ _ h5);
+      apart = eqb-false _ _ (done-test (eqb a b) _ _ h6);
     }
 
--- a finding that is no fault, and one that is
-pub fine-is : (f : Finding) → isFault f ≡ false → f ≡ Fine
-fine-is Fine e = refl
-fine-is (Fault r) e = let z : _≡_ {A = ℕ} 0 1 = cc in absurd (omega arith)
+-- a verdict that refuses nothing, and one that does
+pub done-is : (f : Verdict) → isRefused f ≡ false → f ≡ Done
+done-is Done e = refl
+done-is (Refused r) e = let z : _≡_ {A = ℕ} 0 1 = cc in absurd (omega arith)
 
-pub fault-is : (f : Finding) → isFault f ≡ true → (s : State) (k : ℕ) (v : ℕ) (es : List Ends) (t : Turn) → carry f s ≡ t
+pub refused-is : (f : Verdict) → isRefused f ≡ true → (s : State) (k : ℕ) (v : ℕ) (es : List Ends) (t : Turn) → carry f s ≡ t
     → (u : State) (l : List ℕ) (ls : List (List ℕ)) → t ≡ takeLine u (shapeOf l) → foundOf f k v es ≡ readLines k u (l ∷ ls)
-fault-is Fine e s k v es t p u l ls q = let z : _≡_ {A = ℕ} 0 1 = cc in absurd (omega arith)
-fault-is (Fault r) e s k v es t p u l ls q = sym (read-stop k u r l ls (sym (p ∙ q)))
+refused-is Done e s k v es t p u l ls q = let z : _≡_ {A = ℕ} 0 1 = cc in absurd (omega arith)
+refused-is (Refused r) e s k v es t p u l ls q = sym (read-stop k u r l ls (sym (p ∙ q)))
 
 -- ---- the states of the reader's own graphs
 pub state-start : {q : Bool} (v e : ℕ) (es : List Ends) → q ≡ false → stateIn q v e es ≡ start
@@ -240,14 +186,14 @@ pub ends-next : (k a b : ℕ) (xs ys : List ℕ) {k′ : ℕ} {xs′ ys′ : Lis
 ends-next k a b xs ys h p q l m = rw (h, p, q) (ends-joined k xs ys a b l m)
 
 -- a line that is taken
-pub read-on : (f : Finding) (s u : State) (k : ℕ) (l : List ℕ) (ls : List (List ℕ)) → isFault f ≡ false → carry f s ≡ takeLine u (shapeOf l)
+pub read-on : (f : Verdict) (s u : State) (k : ℕ) (l : List ℕ) (ls : List (List ℕ)) → isRefused f ≡ false → carry f s ≡ takeLine u (shapeOf l)
     → readLines (k + 1) s ls ≡ readLines k u (l ∷ ls)
-read-on f s u k l ls e p = sym (read-go k u s l ls (sym p ∙ ap (λ (g : Finding). carry g s) (fine-is f e)))
+read-on f s u k l ls e p = sym (read-go k u s l ls (sym p ∙ ap (λ (g : Verdict). carry g s) (done-is f e)))
 
 -- a line that is refused
-pub read-refused : (f : Finding) (s u : State) (k v : ℕ) (es : List Ends) (l : List ℕ) (ls : List (List ℕ)) → isFault f ≡ true → carry f s ≡ takeLine u (shapeOf l)
+pub read-refused : (f : Verdict) (s u : State) (k v : ℕ) (es : List Ends) (l : List ℕ) (ls : List (List ℕ)) → isRefused f ≡ true → carry f s ≡ takeLine u (shapeOf l)
     → foundOf f k v es ≡ readLines k u (l ∷ ls)
-read-refused f s u k v es l ls e p = fault-is f e s k v es (takeLine u (shapeOf l)) p u l ls refl
+read-refused f s u k v es l ls e p = refused-is f e s k v es (takeLine u (shapeOf l)) p u l ls refl
 
 -- edge e of the two arrays
 pub ends-at : (k : ℕ) (xs ys : List ℕ) (e : ℕ) → e < k → getD (endsOf k xs ys) e noEnds ≡ record { one = getD xs e 0; other = getD ys e 0 }

@@ -1,5 +1,5 @@
 -- What is read lies within the limits: each line that is taken keeps the state so.
-use mathlib.Core.Path.{_≡_, refl, sym, _∙_}
+use mathlib.Core.Path.{_≡_, refl, sym, ap, _∙_}
 use mathlib.Core.Bool.{Bool, true, false}
 use mathlib.Core.List.{List, [], _∷_, _++_}
 use mathlib.Core.Logic.{by-cases}
@@ -10,17 +10,18 @@ use lib.Dec.{ltb}
 use lib.ListN.{length, getD, length-append, List·getD-append}
 use lib.Seq.{getD-at}
 use borrow.Author.Tests.{ltb-false}
-use Rattle.graphs.specs.declared.GraphFault.{GraphFault}
-use Rattle.graphs.specs.declared.GraphFault.the-variants as why
-use Rattle.graphs.specs.declared.reading.Finding.{Finding}
-use Rattle.graphs.specs.declared.reading.Finding.the-variants.{Fine, Fault}
-use Rattle.lines.specs.declared.Shape.{Shape}
-use Rattle.lines.specs.declared.Shape.the-variants.{Comment, Problem, Edge, Unknown}
-use Rattle.lines.specs.Lines.{shapeOf}
-use Rattle.graphs.specs.Reading.{linesOf, Ends, State, start, declared, Turn, on, stop, problemFault, edgeFault, carry, takeLine, Outcome, graph, refused, refuse, endOf, readLines, outcomeOf}
-use Rattle.graphs.specs.Equations.{noEnds}
-use Rattle.graphs.specs.Parts.{Edged, Drawn}
-use Rattle.graphs.proofs.ReadLaw.{Declares, problem-fine, Fitting, edge-fine, read-none, read-go, read-stop}
+use Rattle.refusals.specs.declared.Refusal.{Refusal}
+use Rattle.refusals.specs.declared.Refusal.the-variants as why
+use Rattle.refusals.specs.declared.Verdict.{Verdict}
+use Rattle.refusals.specs.declared.Verdict.the-variants.{Done, Refused}
+use Rattle.graphs.specs.declared.shapes.Shape.{Shape}
+use Rattle.graphs.specs.declared.shapes.Shape.the-variants.{Comment, Problem, Edge, Unknown}
+use Rattle.lines.specs.Lines.{linesOf}
+use Rattle.graphs.specs.Shapes.{shapeOf}
+use Rattle.graphs.specs.Reading.{textMost, edgesMost, wordsLeast, Ends, State, start, declared, Turn, on, stop, problemFault, edgeFault, carry, takeLine, Outcome, graph, refused, refuseAt, endOf, readLines, outcomeOf}
+use Rattle.graphs.specs.Drawn.{noEnds, Edged, Drawn}
+use Rattle.graphs.specs.Scans.{endsOf, foundOf}
+use Rattle.graphs.proofs.ReadLaw.{Declares, problem-fine, Fitting, edge-fine, read-none, read-go, read-stop, length-ends, ends-at}
 
 -- a state within the limits
 record Good (v e : ℕ) (es : List Ends) : Type 0 where
@@ -32,24 +33,24 @@ abbrev Sound : State → Type 0
 Sound start = _≡_ {A = ℕ} 0 0
 Sound (declared v e es) = Good v e es
 
-stop-on : (r : GraphFault) (s : State) → stop r ≡ on s → ⊥
+stop-on : (r : Refusal) (s : State) → stop r ≡ on s → ⊥
 stop-on r s e = let z : _≡_ {A = ℕ} 0 1 = cc in omega arith
 
 on-is : (s u : State) → on s ≡ on u → s ≡ u
 on-is s u e = cc
 
-carry-fine : (f : Finding) (s u : State) → carry f s ≡ on u → f ≡ Fine
-carry-fine Fine s u e = refl
-carry-fine (Fault r) s u e = absurd (stop-on r u e)
+carry-done : (f : Verdict) (s u : State) → carry f s ≡ on u → f ≡ Done
+carry-done Done s u e = refl
+carry-done (Refused r) s u e = absurd (stop-on r u e)
 
-carry-on : (f : Finding) (s u : State) → carry f s ≡ on u → s ≡ u
-carry-on Fine s u e = on-is s u e
-carry-on (Fault r) s u e = absurd (stop-on r u e)
+carry-on : (f : Verdict) (s u : State) → carry f s ≡ on u → s ≡ u
+carry-on Done s u e = on-is s u e
+carry-on (Refused r) s u e = absurd (stop-on r u e)
 
-sound-problem : (v e : ℕ) → problemFault v e ≡ Fine → Sound (declared v e [])
+sound-problem : (v e : ℕ) → problemFault v e ≡ Done → Sound (declared v e [])
 sound-problem v e h = record { limits = problem-fine v e h; few = omega arith; each = λ i l. absurd (omega arith) }
 
-sound-edge : (v e : ℕ) (es : List Ends) (a b : ℕ) → Sound (declared v e es) → edgeFault v e (length es) a b ≡ Fine → Sound (declared v e (es ++ (record { one = a; other = b } ∷ [])))
+sound-edge : (v e : ℕ) (es : List Ends) (a b : ℕ) → Sound (declared v e es) → edgeFault v e (length es) a b ≡ Done → Sound (declared v e (es ++ (record { one = a; other = b } ∷ [])))
 sound-edge v e es a b g h =
     let f = edge-fine v e (length es) a b h in
     record { limits = g .limits; few = omega (arith, f .room, length-append es (record { one = a; other = b } ∷ [])); each = at f }
@@ -72,23 +73,23 @@ sound-line s u Unknown g e = absurd (stop-on why.Shape u e)
 sound-line s u Comment g e = let q = on-is s u e in rw (← q) g
 sound-line start u (Problem v e) g q =
     let r = carry-on (problemFault v e) (declared v e []) u q in
-    rw (← r) (sound-problem v e (carry-fine (problemFault v e) (declared v e []) u q))
+    rw (← r) (sound-problem v e (carry-done (problemFault v e) (declared v e []) u q))
 sound-line (declared v e es) u (Problem v′ e′) g q = absurd (stop-on why.Order u q)
 sound-line start u (Edge a b) g q = absurd (stop-on why.Order u q)
 sound-line (declared v e es) u (Edge a b) g q =
     let n = declared v e (es ++ (record { one = a; other = b } ∷ [])) in
     let r = carry-on (edgeFault v e (length es) a b) n u q in
-    rw (← r) (sound-edge v e es a b g (carry-fine (edgeFault v e (length es) a b) n u q))
+    rw (← r) (sound-edge v e es a b g (carry-done (edgeFault v e (length es) a b) n u q))
 
 -- ---- the end
-refused-graph : (r : GraphFault) (k v : ℕ) (es : List Ends) → refused r k ≡ graph v es → ⊥
+refused-graph : (r : Refusal) (k v : ℕ) (es : List Ends) → refused r k ≡ graph v es → ⊥
 refused-graph r k v es e = let z : _≡_ {A = ℕ} 0 1 = cc in omega arith
 
-refuse-graph : (b : Bool) (r : GraphFault) (k : ℕ) (o : Outcome) (v : ℕ) (es : List Ends) → refuse b r k o ≡ graph v es → o ≡ graph v es
+refuse-graph : (b : Bool) (r : Refusal) (k : ℕ) (o : Outcome) (v : ℕ) (es : List Ends) → refuseAt b r k o ≡ graph v es → o ≡ graph v es
 refuse-graph true r k o v es e = absurd (refused-graph r k v es e)
 refuse-graph false r k o v es e = e
 
-refuse-test : (b : Bool) (r : GraphFault) (k : ℕ) (o : Outcome) (v : ℕ) (es : List Ends) → refuse b r k o ≡ graph v es → b ≡ false
+refuse-test : (b : Bool) (r : Refusal) (k : ℕ) (o : Outcome) (v : ℕ) (es : List Ends) → refuseAt b r k o ≡ graph v es → b ≡ false
 refuse-test true r k o v es e = absurd (refused-graph r k v es e)
 refuse-test false r k o v es e = refl
 
@@ -131,4 +132,15 @@ pub text-drawn : (t : List ℕ) (w v : ℕ) (es : List Ends) → outcomeOf t w �
 unfolding outcomeOf
 text-drawn t w v es e =
     lines-drawn t v es
-    (refuse-graph (ltb w 462) why.Words 0 _ v es (refuse-graph (ltb 32768 (length t)) why.Long 0 _ v es e))
+    (refuse-graph (ltb w wordsLeast) why.Length 0 _ v es (refuse-graph (ltb textMost (length t)) why.Long 0 _ v es e))
+
+-- ---- the graph that was read
+pub found-drawn : (t : List ℕ) (f : Verdict) (k v : ℕ) (es : List Ends) → foundOf f k v es ≡ readLines 1 start (linesOf t) → f ≡ Done → Drawn v es
+found-drawn t f k v es e q = lines-drawn t v es (sym e ∙ ap (λ (g : Verdict). foundOf g k v es) q)
+
+module _ (v k : ℕ) (xs ys : List ℕ) (d : Drawn v (endsOf k xs ys)) where
+  pub ends-few : k ≤ edgesMost
+  ends-few = omega (arith, d .few, length-ends k xs ys)
+
+  pub ends-edged : (e : ℕ) → e < k → Edged v (record { one = getD xs e 0; other = getD ys e 0 })
+  ends-edged e h = rw (ends-at k xs ys e h) at (d .each e (omega (arith, length-ends k xs ys)))

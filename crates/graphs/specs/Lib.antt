@@ -1,5 +1,4 @@
+pub mod Shapes
 pub mod Reading
-pub mod Equations
-pub mod Answers
-pub mod Parts
-pub mod Cases
+pub mod Scans
+pub mod Drawn

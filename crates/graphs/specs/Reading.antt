@@ -4,33 +4,28 @@ use mathlib.Core.List.{List, [], _∷_, _++_}
 use Prim.Native.Nat.{ℕ, suc}
 use lib.Dec.{eqb, ltb, leb}
 use lib.ListN.{length}
-use Rattle.graphs.specs.declared.GraphFault.{GraphFault}
-use Rattle.graphs.specs.declared.GraphFault.the-variants as why
-use Rattle.graphs.specs.declared.reading.Finding.{Finding}
-use Rattle.graphs.specs.declared.reading.Finding.the-variants.{Fine, Fault}
-use Rattle.lines.specs.declared.Shape.{Shape}
-use Rattle.lines.specs.declared.Shape.the-variants.{Comment, Problem, Edge, Unknown}
-use Rattle.lines.specs.Lines.{shapeOf}
+use Rattle.refusals.specs.declared.Refusal.{Refusal}
+use Rattle.refusals.specs.declared.Refusal.the-variants as why
+use Rattle.refusals.specs.declared.Verdict.{Verdict}
+use Rattle.refusals.specs.declared.Verdict.the-variants.{Done, Refused}
+use Rattle.refusals.specs.Refusal.{refuse}
+use Rattle.lines.specs.Lines.{linesOf}
+use Rattle.graphs.specs.declared.shapes.Shape.{Shape}
+use Rattle.graphs.specs.declared.shapes.Shape.the-variants.{Comment, Problem, Edge, Unknown}
+use Rattle.graphs.specs.Shapes.{shapeOf}
 
--- document 01's number of each refusal
-abbrev pub faultNumber : GraphFault → ℕ
-faultNumber why.Words = 2
-faultNumber why.Shape = 10
-faultNumber why.Order = 11
-faultNumber why.Limits = 12
-faultNumber why.Vertex = 13
-faultNumber why.Count = 14
-faultNumber why.Long = 15
+-- a text has at most 32,768 bytes, a graph at most 20 vertices and 64 edges; the reader is lent at least 462 words
+abbrev pub textMost : ℕ
+textMost = 32768
 
--- one more byte at the front of the first line
-abbrev pub grow : ℕ → List (List ℕ) → List (List ℕ)
-grow x [] = (x ∷ []) ∷ []
-grow x (s ∷ ls) = (x ∷ s) ∷ ls
+abbrev pub verticesMost : ℕ
+verticesMost = 20
 
--- the lines of a text, without their line feeds: a final line feed opens no further line
-unfoldable pub linesOf : List ℕ → List (List ℕ)
-linesOf [] = []
-linesOf (x ∷ t) = elim (eqb x 10) [ true ↦ [] ∷ linesOf t | false ↦ grow x (linesOf t) ]
+abbrev pub edgesMost : ℕ
+edgesMost = 64
+
+abbrev pub wordsLeast : ℕ
+wordsLeast = 462
 
 -- the two vertices of an e line, as written
 pub record Ends : Type 0 where
@@ -45,28 +40,23 @@ pub data State : Type 0 where
 -- what one more line gives
 pub data Turn : Type 0 where
   on : State → Turn
-  stop : GraphFault → Turn
-
--- r where the test holds, else what is asked next
-abbrev pub fault : Bool → GraphFault → Finding → Finding
-fault true r f = Fault r
-fault false r f = f
+  stop : Refusal → Turn
 
 -- a p line with these numbers: 12 for vertices not 1 to 20, or edges not 1 to 64
-abbrev pub problemFault : ℕ → ℕ → Finding
+abbrev pub problemFault : ℕ → ℕ → Verdict
 problemFault v e =
-    fault (ltb v 1) why.Limits (fault (ltb 20 v) why.Limits (fault (ltb e 1) why.Limits (fault (ltb 64 e) why.Limits Fine)))
+    refuse (ltb v 1) why.Limits (refuse (ltb verticesMost v) why.Limits (refuse (ltb e 1) why.Limits (refuse (ltb edgesMost e) why.Limits Done)))
 
 -- an e line after a p line with v and e, and after k e lines: 14 for one too many, then 13 for its vertices
-abbrev pub edgeFault : ℕ → ℕ → ℕ → ℕ → ℕ → Finding
+abbrev pub edgeFault : ℕ → ℕ → ℕ → ℕ → ℕ → Verdict
 edgeFault v e k a b =
-    fault (leb e k) why.Count
-    (fault (ltb a 1) why.Vertex
-    (fault (ltb v a) why.Vertex (fault (ltb b 1) why.Vertex (fault (ltb v b) why.Vertex (fault (eqb a b) why.Vertex Fine)))))
+    refuse (leb e k) why.Count
+    (refuse (ltb a 1) why.Vertex
+    (refuse (ltb v a) why.Vertex (refuse (ltb b 1) why.Vertex (refuse (ltb v b) why.Vertex (refuse (eqb a b) why.Vertex Done)))))
 
-abbrev pub carry : Finding → State → Turn
-carry Fine s = on s
-carry (Fault r) s = stop r
+abbrev pub carry : Verdict → State → Turn
+carry Done s = on s
+carry (Refused r) s = stop r
 
 -- a line of the given shape
 unfoldable pub takeLine : State → Shape → Turn
@@ -81,17 +71,17 @@ takeLine (declared v e es) (Edge a b) =
 -- what a text reads to: vertices and edges, or a refusal and its line
 pub data Outcome : Type 0 where
   graph : (vertices : ℕ) (list : List Ends) → Outcome
-  refused : (why : GraphFault) (line : ℕ) → Outcome
+  refused : (why : Refusal) (line : ℕ) → Outcome
 
 -- r at line k where the test holds, else what is asked next
-abbrev pub refuse : Bool → GraphFault → ℕ → Outcome → Outcome
-refuse true r k o = refused r k
-refuse false r k o = o
+abbrev pub refuseAt : Bool → Refusal → ℕ → Outcome → Outcome
+refuseAt true r k o = refused r k
+refuseAt false r k o = o
 
 -- after the last line
 unfoldable pub endOf : State → Outcome
 endOf start = refused why.Order 0
-endOf (declared v e es) = refuse (ltb (length es) e) why.Count 0 (refuse (ltb e (length es)) why.Count 0 (graph v es))
+endOf (declared v e es) = refuseAt (ltb (length es) e) why.Count 0 (refuseAt (ltb e (length es)) why.Count 0 (graph v es))
 
 -- the lines from number k on, from the state s
 unfoldable pub readLines : ℕ → State → List (List ℕ) → Outcome
@@ -100,4 +90,4 @@ readLines k s (l ∷ ls) = elim (takeLine s (shapeOf l)) [ on s′ ↦ readLines
 
 -- a whole text, and the number of words lent: 15, then 2, then the lines from number 1 on
 unfoldable pub outcomeOf : List ℕ → ℕ → Outcome
-outcomeOf t w = refuse (ltb 32768 (length t)) why.Long 0 (refuse (ltb w 462) why.Words 0 (readLines 1 start (linesOf t)))
+outcomeOf t w = refuseAt (ltb textMost (length t)) why.Long 0 (refuseAt (ltb w wordsLeast) why.Length 0 (readLines 1 start (linesOf t)))

@@ -1,85 +1,262 @@
-// The reader of graph files: a text becomes a coefficient table with one equation for each edge.
-// Contracts cite lines/specs/Lines (what a line is), specs/Reading (what a text means), specs/Equations and specs/Answers.
-use crate::equations::write;
-use crate::reading::Finding;
-use crate::reading::read_lines;
+// Graph files: a text read line by line into a graph, or the first refusal and its line. Nothing lent is written here.
+// Contracts cite lines/specs/Lines (what stands in a line), specs/Shapes (what a line says), specs/Reading (what a text means) and specs/Scans.
+use crate::shapes::Shape;
+use crate::shapes::shape_of;
+use lines::find;
+use refusals::Refusal;
+use refusals::Verdict;
 ghost use mathlib.Core.Path.{_≡_};
-ghost use lib.ListN.{length};
-ghost use Rattle.graphs.specs.Reading.{faultNumber, outcomeOf};
-ghost use Rattle.graphs.specs.Answers.{answerOf, wordsAfter, readTold, outcomeTold};
+ghost use Prim.Native.Nat.{_+_, _≤_, _<_};
+ghost use lib.ListN.{length, set};
+ghost use Rattle.lines.specs.Lines.{linesOf};
+ghost use Rattle.graphs.specs.Shapes.{shapeOf};
+ghost use Rattle.graphs.specs.Reading.{textMost, edgesMost, problemFault, edgeFault, takeLine, carry, start, endOf, readLines};
+ghost use Rattle.graphs.specs.Scans.{stateOf, scanOf, edgesOf, foundOf, isRefused};
+ghost use Rattle.graphs.specs.declared.shapes.Shape.the-variants.{Edge, Problem};
 
-mod equations;
-mod reading;
+mod shapes;
 
-// Why a text is refused: one case for each of document 01's numbers 2 and 10 to 15.
-pub enum GraphFault {
-    // Fewer than 462 words were lent.
-    Words,
-    // A line of no known shape.
-    Shape,
-    // A second p line, an e line before the p line, or no p line at the end.
-    Order,
-    // Vertices not 1 to 20, or edges not 1 to 64.
-    Limits,
-    // A vertex that was not declared, or an edge from a vertex to itself.
-    Vertex,
-    // The number of e lines is not the declared one.
-    Count,
-    // The text is above 32,768 bytes.
-    Long,
+// A text has at most so many bytes.
+pub const TEXT_MOST: usize = 32768;
+
+// A graph has at most so many vertices, one for each unknown.
+const VERTICES_MOST: u64 = 20;
+
+// And at most so many edges, one for each equation.
+const EDGES_MOST: u64 = 64;
+
+// What the lines so far say: whether there was a p line, its numbers, and both ends of each edge.
+pub struct Graph {
+    pub known: bool,
+    pub vertices: u64,
+    pub edges: u64,
+    pub count: u64,
+    pub one: [u64; 64],
+    pub other: [u64; 64],
 }
 
-// Document 01's number for it.
-pub fn fault_number(w: GraphFault) -> u64
-    ensures { λ k. ⌜ k ≡ faultNumber w ⌝ }
+// The graph after one more line, or why the line is refused.
+pub struct Taken {
+    pub verdict: Verdict,
+    pub graph: Graph,
+}
+
+// What the whole text gives: a refusal with its line, or the graph.
+pub struct Scan {
+    pub verdict: Verdict,
+    pub line: u64,
+    pub graph: Graph,
+}
+
+// A graph of no edges yet.
+fn fresh(known: bool, vertices: u64, edges: u64) -> Graph
+    ensures { λ r. ⌜ (r .known ≡ known) × (r .vertices ≡ vertices) × (r .edges ≡ edges) × (r .count ≡ 0) ⌝ }
 {
-    match w {
-        GraphFault::Words => 2,
-        GraphFault::Shape => 10,
-        GraphFault::Order => 11,
-        GraphFault::Limits => 12,
-        GraphFault::Vertex => 13,
-        GraphFault::Count => 14,
-        GraphFault::Long => 15,
+    Graph {
+        known,
+        vertices,
+        edges,
+        count: 0,
+        one: [0; 64],
+        other: [0; 64],
     }
 }
 
-// The graph's unknowns and equations, or why there are none and in which line: 0 where no line applies.
-pub enum ReadAnswer {
-    Graph { n: u64, m: u64 },
-    Refused { why: GraphFault, line: u64 },
+// Why a p line with these numbers is refused, where it is the first.
+fn problem_fault(v: u64, e: u64) -> Verdict
+    ensures { λ r. ⌜ r ≡ problemFault v e ⌝ }
+{
+    if v < 1 {
+        return Verdict::Refused(Refusal::Limits);
+    }
+    if v > VERTICES_MOST {
+        return Verdict::Refused(Refusal::Limits);
+    }
+    if e < 1 {
+        return Verdict::Refused(Refusal::Limits);
+    }
+    if e > EDGES_MOST {
+        return Verdict::Refused(Refusal::Limits);
+    }
+    Verdict::Done
 }
 
-// Reads a graph file and writes its coefficient words to the front of the words lent. A refusal writes nothing.
-pub fn read(text: &[u8], words: &mut [u64]) -> ReadAnswer
-    ensures { λ r. ⌜ (r ≡ answerOf (outcomeOf (now (text .entry)) (length (now (words .entry)))))
-        × (now (words .exit) ≡ wordsAfter (outcomeOf (now (text .entry)) (length (now (words .entry)))) (now (words .entry)))
-        × (readTold r ≡ outcomeTold (outcomeOf (now (text .entry)) (length (now (words .entry))))) ⌝ }
+// Why an e line is refused, after a p line with v and e and k e lines.
+fn edge_fault(v: u64, e: u64, k: u64, a: u64, b: u64) -> Verdict
+    ensures { λ r. ⌜ r ≡ edgeFault v e k a b ⌝ }
 {
-    if text.len() > 32768 {
-        return ReadAnswer::Refused {
-            why: GraphFault::Long,
-            line: 0,
+    if e <= k {
+        return Verdict::Refused(Refusal::Count);
+    }
+    if a < 1 {
+        return Verdict::Refused(Refusal::Vertex);
+    }
+    if a > v {
+        return Verdict::Refused(Refusal::Vertex);
+    }
+    if b < 1 {
+        return Verdict::Refused(Refusal::Vertex);
+    }
+    if b > v {
+        return Verdict::Refused(Refusal::Vertex);
+    }
+    if a == b {
+        return Verdict::Refused(Refusal::Vertex);
+    }
+    Verdict::Done
+}
+
+// The graph with one more edge.
+fn joined(g: Graph, a: u64, b: u64) -> Graph
+    requires { ⌜ g .count < edgesMost ⌝ }
+    ensures { λ r. ⌜ (r .known ≡ g .known) × (r .vertices ≡ g .vertices) × (r .edges ≡ g .edges) × (r .count ≡ g .count + 1)
+        × (r .one ≡ set (g .one) (g .count) a) × (r .other ≡ set (g .other) (g .count) b) ⌝ }
+{
+    let k = g.count as usize;
+    let mut one = g.one;
+    one[k] = a;
+    let mut other = g.other;
+    other[k] = b;
+    Graph {
+        known: g.known,
+        vertices: g.vertices,
+        edges: g.edges,
+        count: g.count + 1,
+        one,
+        other,
+    }
+}
+
+// A p line.
+fn take_problem(g: Graph, v: u64, e: u64) -> Taken
+    requires { ⌜ g .edges ≤ edgesMost ⌝ }
+    ensures { λ r. ⌜ (carry (r .verdict) (stateOf (r .graph)) ≡ takeLine (stateOf g) (Problem v e)) × (r .graph .edges ≤ edgesMost) ⌝ }
+{
+    if g.known {
+        let again = Verdict::Refused(Refusal::Order);
+        return Taken {
+            verdict: again,
+            graph: g,
         };
     }
-    if words.len() < 462 {
-        return ReadAnswer::Refused {
-            why: GraphFault::Words,
-            line: 0,
-        };
-    }
-    let s = read_lines(text);
-    let finding = s.finding;
-    let line = s.line;
-    let graph = s.graph;
-    match finding {
-        Finding::Fault(why) => ReadAnswer::Refused { why, line },
-        Finding::Fine => {
-            let n = graph.vertices;
-            let m = graph.count;
-            let used = tables::words(n);
-            write(&mut words[..used], graph);
-            ReadAnswer::Graph { n, m }
+    let f = problem_fault(v, e);
+    match f {
+        Verdict::Refused(w) => Taken {
+            verdict: Verdict::Refused(w),
+            graph: g,
+        },
+        Verdict::Done => {
+            let h = fresh(true, v, e);
+            Taken {
+                verdict: Verdict::Done,
+                graph: h,
+            }
         }
+    }
+}
+
+// An e line.
+fn take_edge(g: Graph, a: u64, b: u64) -> Taken
+    requires { ⌜ g .edges ≤ edgesMost ⌝ }
+    ensures { λ r. ⌜ (carry (r .verdict) (stateOf (r .graph)) ≡ takeLine (stateOf g) (Edge a b)) × (r .graph .edges ≤ edgesMost) ⌝ }
+{
+    if !g.known {
+        let early = Verdict::Refused(Refusal::Order);
+        return Taken {
+            verdict: early,
+            graph: g,
+        };
+    }
+    let f = edge_fault(g.vertices, g.edges, g.count, a, b);
+    match f {
+        Verdict::Refused(w) => Taken {
+            verdict: Verdict::Refused(w),
+            graph: g,
+        },
+        Verdict::Done => {
+            let h = joined(g, a, b);
+            Taken {
+                verdict: Verdict::Done,
+                graph: h,
+            }
+        }
+    }
+}
+
+// One line.
+fn take_line(g: Graph, line: &[u8]) -> Taken
+    requires { ⌜ g .edges ≤ edgesMost ⌝ }
+    ensures { λ r. ⌜ (carry (r .verdict) (stateOf (r .graph)) ≡ takeLine (stateOf g) (shapeOf (now (line .entry)))) × (r .graph .edges ≤ edgesMost) ⌝ }
+{
+    let s = shape_of(line);
+    match s {
+        Shape::Comment => Taken {
+            verdict: Verdict::Done,
+            graph: g,
+        },
+        Shape::Problem { vertices, edges } => take_problem(g, vertices, edges),
+        Shape::Edge { one, other } => take_edge(g, one, other),
+        Shape::Unknown => Taken {
+            verdict: Verdict::Refused(Refusal::Shape),
+            graph: g,
+        },
+    }
+}
+
+// Whether it is a refusal.
+fn refused(f: Verdict) -> bool
+    ensures { λ r. ⌜ r ≡ isRefused f ⌝ }
+{
+    match f {
+        Verdict::Done => false,
+        Verdict::Refused(_) => true,
+    }
+}
+
+// Why a text is refused after its last line.
+fn end_fault(g: Graph) -> Verdict
+    ensures { λ r. ⌜ foundOf r 0 (g .vertices) (edgesOf g) ≡ endOf (stateOf g) ⌝ }
+{
+    if !g.known {
+        return Verdict::Refused(Refusal::Order);
+    }
+    if g.count < g.edges {
+        return Verdict::Refused(Refusal::Count);
+    }
+    if g.edges < g.count {
+        return Verdict::Refused(Refusal::Count);
+    }
+    Verdict::Done
+}
+
+// The whole text.
+pub fn read_lines(text: &[u8]) -> Scan
+    requires { ⌜ length (now text) ≤ textMost ⌝ }
+    ensures { λ r. ⌜ scanOf r ≡ readLines 1 start (linesOf (now (text .entry))) ⌝ }
+{
+    let mut g = fresh(false, 0, 0);
+    let mut at: usize = 0;
+    let mut line: u64 = 1;
+    while at < text.len() {
+        let end = at + find(&text[at..], 10);
+        let taken = take_line(g, &text[at..end]);
+        let verdict = taken.verdict;
+        let graph = taken.graph;
+        if refused(verdict) {
+            return Scan {
+                verdict,
+                line,
+                graph,
+            };
+        }
+        g = graph;
+        at = end + 1;
+        line += 1;
+    }
+    let verdict = end_fault(g);
+    Scan {
+        verdict,
+        line: 0,
+        graph: g,
     }
 }

@@ -1,3 +1,1 @@
-pub mod Output
-pub mod Parts
-pub mod Cases
+pub mod Ending

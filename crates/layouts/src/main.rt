@@ -1,143 +1,166 @@
-// Reads a graph file from standard input and writes all its layouts to standard output: what it writes is said in specs/Output.
-// Standard error has words where a read or a write fails, and progress where it is a terminal. Here is proved that nothing goes
-// out of bounds and that the calls end; that the bytes reach the output is the C library's part.
-use crate::session::Session;
+// Reads a graph file from standard input and writes all its layouts to standard output: what it writes is said in planner's
+// specs/Output. Once all of it was taken, it tells on descriptor 3 how the run ended. Standard error has words where a read or a
+// write fails, and progress. Specs/Ending says when something is told, and what; that `send` is called for each text, and with which
+// descriptor, is read and tested, and that the bytes arrive is the system's part.
+use crate::progress::Screen;
 use libc::STDERR_FILENO;
 use libc::STDIN_FILENO;
 use libc::STDOUT_FILENO;
+use planner::Session;
+use refusals::MOST_WORDS;
+use refusals::PIECE_ENTRIES;
+use streams::Input;
 ghost use mathlib.Core.Path.{_≡_};
 ghost use Prim.Native.Nat.{_+_, _*_, _≤_};
 ghost use lib.ListN.{length};
-ghost use Rattle.layouts.specs.Output.{Standing};
-ghost use Rattle.layouts.specs.Parts.{bytesOf};
+ghost use Rattle.refusals.specs.Limits.{mostWords, pieceEntries};
+ghost use Rattle.listing.specs.Listing.{longestLayout, longestTotals};
+ghost use Rattle.planner.specs.Output.{Standing};
+ghost use Rattle.layouts.specs.Ending.{textBytes, Drives, Concludes, Walks, Ends};
 
-mod session;
+mod progress;
 
 // At most so many points a call, so that progress shows: 2^26.
 const BUDGET: u64 = 67108864;
 
-// What standard input gave: so many bytes of it, or a read that failed.
-enum Input {
-    Bytes(usize),
-    Failed,
+// The bytes of the text that is lent to each call.
+const TEXT_BYTES: usize = 65536;
+
+// How many bytes of the output were taken so far, and whether those are all.
+struct Driven {
+    sent: u64,
+    all: bool,
 }
 
-// Reads until the buffer is full or the input ends.
-fn read_input(buf: &mut [u8]) -> Input
-    ensures { λ r. ⌜ bytesOf r ≤ length (now (buf .exit)) ⌝ }
-{
-    let mut done: usize = 0;
-    while done < buf.len() {
-        let rest = &mut buf[done..];
-        let got = libc::read(STDIN_FILENO, rest);
-        if got < 0 {
-            return Input::Failed;
-        }
-        let more = io::count(got, rest);
-        if more == 0 {
-            return Input::Bytes(done);
-        }
-        done += more;
-    }
-    Input::Bytes(done)
+// How many bytes of the text are to be told, how many bytes of the output were taken, and whether closing it went well.
+struct Ending {
+    told: usize,
+    sent: u64,
+    closed: bool,
 }
 
-// Whether the line of progress is to be written anew: once every 2^24 points.
-fn due(before: u64, now: u64) -> bool {
-    before / 16777216 != now / 16777216
-}
-
-// One line on the terminal, written over itself.
-fn show(s: Session) {
-    io::write_all(STDERR_FILENO, b"\rpoints ");
-    io::print_decimal(STDERR_FILENO, s.points);
-    io::write_all(STDERR_FILENO, b" of ");
-    io::print_decimal(STDERR_FILENO, gray::power(s.n));
-    io::write_all(STDERR_FILENO, b" found ");
-    io::print_decimal(STDERR_FILENO, s.found);
-}
-
-// Progress on the terminal, where there is one and it is due.
-fn progress(terminal: bool, before: u64, s: Session) {
-    if !terminal {
-        return;
-    }
-    if due(before, s.points) {
-        show(s);
-    }
-}
-
-// The calls after the first text, each written before the next; answers whether all could be written.
-fn drive(begun: Session, table: &[u64], list: &mut [u64], text: &mut [u8], terminal: bool) -> bool
-    requires { ⌜ Standing (now table) begun × (1 ≤ length (now list)) × (63 * length (now list) + 92 ≤ length (now text)) ⌝ }
+// The calls after the first text, each written before the next; so many bytes were taken before them.
+fn drive(
+    begun: Session,
+    table: &[u64],
+    list: &mut [u64],
+    text: &mut [u8],
+    first: u64,
+    screen: Screen,
+) -> Driven
+    requires { ⌜ Standing (now table) begun × (1 ≤ length (now list)) × (longestLayout * length (now list) + longestTotals ≤ length (now text)) × (length (now text) ≤ textBytes) × (first ≤ textBytes) ⌝ }
+    ensures { λ r. ⌜ Drives (now (table .entry)) begun first r ⌝ }
 {
     let mut s = begun;
+    let mut sent = first;
+    let mut shown = false;
     while s.open {
         let before = s.points;
-        s = session::next(s, table, BUDGET, list, text);
+        s = planner::next(s, table, BUDGET, list, text);
         let used = s.used;
-        if !io::write_all(STDOUT_FILENO, &text[..used]) {
-            return false;
+        shown = progress::make_room(screen, shown, used);
+        let got = streams::send(STDOUT_FILENO, &text[..used]);
+        sent += got as u64;
+        if got < used {
+            return Driven { sent, all: false };
         }
-        progress(terminal, before, s);
+        shown = progress::show(screen, shown, before, s);
     }
-    true
+    Driven { sent, all: true }
 }
 
-// The walk of a graph that was read, with progress on the terminal and the terminal's line cleared after it.
-fn walk_graph(s: Session, table: &[u64], list: &mut [u64], text: &mut [u8]) -> bool
-    requires { ⌜ Standing (now table) s × (1 ≤ length (now list)) × (63 * length (now list) + 92 ≤ length (now text)) ⌝ }
+// The end of a run that wrote everything: the output is closed, and told is what stands in the text, if that went well.
+fn concluded(told: usize, sent: u64) -> Ending
+    ensures { λ r. ⌜ Concludes told sent r ⌝ }
 {
-    let terminal = libc::isatty(STDERR_FILENO) == 1;
-    let all = drive(s, table, list, text, terminal);
-    if terminal {
-        io::write_all(STDERR_FILENO, b"\r\x1b[K");
+    let closed = streams::finish(STDOUT_FILENO);
+    if !closed {
+        return Ending {
+            told: 0,
+            sent,
+            closed,
+        };
     }
-    all
+    Ending { told, sent, closed }
 }
 
-// The whole output for an input; answers whether it could be written.
+// The walk of a graph that was read, and its end; so many bytes were taken before it.
+fn walk_graph(s: Session, table: &[u64], list: &mut [u64], text: &mut [u8], first: u64) -> Ending
+    requires { ⌜ Standing (now table) s × (1 ≤ length (now list)) × (longestLayout * length (now list) + longestTotals ≤ length (now text)) × (length (now text) ≤ textBytes) × (first ≤ textBytes) ⌝ }
+    ensures { λ r. ⌜ Walks (now (table .entry)) s first (now (text .exit)) r ⌝ }
+{
+    let screen = progress::look();
+    let d = drive(s, table, list, text, first, screen);
+    progress::clear(screen);
+    if !d.all {
+        return Ending {
+            told: 0,
+            sent: d.sent,
+            closed: false,
+        };
+    }
+    let told = texts::put(text, 0, b"ended\n");
+    concluded(told, d.sent)
+}
+
+// The whole output for an input, and its end.
 fn run(
     input: &[u8],
     words: &mut [u64],
     table: &mut [u64],
     list: &mut [u64],
     text: &mut [u8],
-) -> bool
-    requires { ⌜ (length (now words) ≡ 462) × (length (now table) ≡ 462) × (length (now list) ≡ 1024) × (length (now text) ≡ 65536) ⌝ }
+) -> Ending
+    requires { ⌜ (length (now words) ≡ mostWords) × (length (now table) ≡ mostWords) × (length (now list) ≡ pieceEntries) × (length (now text) ≡ textBytes) ⌝ }
+    ensures { λ r. ⌜ Ends (now (input .entry)) (now (text .exit)) r ⌝ }
 {
-    let s = session::begin(input, words, table, text);
+    let s = planner::begin(input, words, table, text);
     let used = s.used;
-    if !io::write_all(STDOUT_FILENO, &text[..used]) {
-        return false;
+    let got = streams::send(STDOUT_FILENO, &text[..used]);
+    let first = got as u64;
+    if got < used {
+        return Ending {
+            told: 0,
+            sent: first,
+            closed: false,
+        };
     }
     if !s.open {
-        return true;
+        return concluded(used, first);
     }
     let size = tables::words(s.n);
-    walk_graph(s, &table[..size], list, text)
+    walk_graph(s, &table[..size], list, text, first)
+}
+
+// What is to be told, or words where there is nothing.
+fn tell(line: &[u8]) {
+    if line.len() == 0 {
+        streams::send(
+            STDERR_FILENO,
+            b"layouts: standard output could not be written\n",
+        );
+        return;
+    }
+    streams::send(streams::TOLD, line);
 }
 
 fn main() {
     let mut buf = [0u8; 32769];
-    let mut words = [0u64; 462];
-    let mut table = [0u64; 462];
-    let mut list = [0u64; 1024];
-    let mut text = [0u8; 65536];
-    match read_input(&mut buf) {
+    let mut words = [0u64; MOST_WORDS];
+    let mut table = [0u64; MOST_WORDS];
+    let mut list = [0u64; PIECE_ENTRIES];
+    let mut text = [0u8; TEXT_BYTES];
+    match streams::receive(STDIN_FILENO, &mut buf) {
         Input::Failed => {
-            io::write_all(
+            streams::send(
                 STDERR_FILENO,
                 b"layouts: standard input could not be read\n",
             );
         }
         Input::Bytes(k) => {
-            if !run(&buf[..k], &mut words, &mut table, &mut list, &mut text) {
-                io::write_all(
-                    STDERR_FILENO,
-                    b"layouts: standard output could not be written\n",
-                );
-            }
+            let ending = run(&buf[..k], &mut words, &mut table, &mut list, &mut text);
+            let told = ending.told;
+            tell(&text[..told]);
         }
     }
 }

@@ -1,1 +1,3 @@
 pub mod LineLaw
+pub mod SplitLaw
+pub mod ReturnLaw

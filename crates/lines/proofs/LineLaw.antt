@@ -14,8 +14,7 @@ use borrow.Author.Tests.{eq-eqb, ne-eqb, lt-ltb, le-ltb, le-leb, lt-leb}
 use Rattle.lines.specs.declared.Number.{Number}
 use Rattle.lines.specs.declared.Number.the-variants as number
 use Rattle.lines.specs.declared.Pair.the-variants as pair
-use Rattle.lines.specs.declared.Shape.the-variants.{Comment, Unknown}
-use Rattle.lines.specs.Lines.{firstOf, decimalFrom, isPadded, numberIn, both, pairIn, starts, isComment, asProblem, asEdge, shapeOf}
+use Rattle.lines.specs.Lines.{firstOf, decimalFrom, isPadded, numberIn, both, pairIn, starts, isComment}
 
 -- ---- the first b
 pub first-stop : (b x : ℕ) (t : List ℕ) → x ≡ b → firstOf b (x ∷ t) ≡ 0
@@ -143,26 +142,7 @@ starts-long f s e = by-cases (decLt (length s) (length f)) (λ h. absurd (clash 
     clash : false ≡ true → ⊥
     clash q = let z : _≡_ {A = ℕ} 0 1 = cc in omega arith
 
--- ---- the shape of a line
-module _ (s : List ℕ) where
-  pub shape-comment : isComment s ≡ true → Comment ≡ shapeOf s
-  unfolding shapeOf
-  shape-comment e = rw e
-
-  pub shape-problem : isComment s ≡ false → starts (112 ∷ 32 ∷ 101 ∷ 100 ∷ 103 ∷ 101 ∷ 32 ∷ []) s ≡ true → asProblem (pairIn (drop 7 s)) ≡ shapeOf s
-  unfolding shapeOf
-  shape-problem e p = rw (e, p)
-
-  pub shape-edge : isComment s ≡ false → starts (112 ∷ 32 ∷ 101 ∷ 100 ∷ 103 ∷ 101 ∷ 32 ∷ []) s ≡ false → starts (101 ∷ 32 ∷ []) s ≡ true
-      → asEdge (pairIn (drop 2 s)) ≡ shapeOf s
-  unfolding shapeOf
-  shape-edge e p q = rw (e, p, q)
-
-  pub shape-unknown : isComment s ≡ false → starts (112 ∷ 32 ∷ 101 ∷ 100 ∷ 103 ∷ 101 ∷ 32 ∷ []) s ≡ false → starts (101 ∷ 32 ∷ []) s ≡ false
-      → Unknown ≡ shapeOf s
-  unfolding shapeOf
-  shape-unknown e p q = rw (e, p, q)
-
+-- ---- comments and numbers
 module _ (s : List ℕ) where
   pub comment-bytes : starts (99 ∷ 32 ∷ []) s ≡ true → true ≡ isComment s
   comment-bytes e = rw e

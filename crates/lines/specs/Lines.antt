@@ -1,4 +1,4 @@
--- What a line of a graph file is: its bytes without the line feed.
+-- The lines of a text and what stands in them, for any kind of file: a line is its bytes without the line feed.
 use mathlib.Core.Bool.{Bool, true, false, _&&_, _||_}
 use mathlib.Core.List.{List, [], _∷_}
 use Prim.Native.Nat.{ℕ, suc, _+_, _-_, _*_}
@@ -8,8 +8,6 @@ use Rattle.lines.specs.declared.Number.{Number}
 use Rattle.lines.specs.declared.Number.the-variants as number
 use Rattle.lines.specs.declared.Pair.{Pair}
 use Rattle.lines.specs.declared.Pair.the-variants as pair
-use Rattle.lines.specs.declared.Shape.{Shape}
-use Rattle.lines.specs.declared.Shape.the-variants.{Comment, Problem, Edge, Unknown}
 
 -- how many bytes stand before the first b: all of them where there is none
 unfoldable pub firstOf : ℕ → List ℕ → ℕ
@@ -64,21 +62,13 @@ starts (x ∷ f) (y ∷ s) = eqb y x && starts f s
 abbrev pub isComment : List ℕ → Bool
 isComment s = starts (99 ∷ 32 ∷ []) s || (eqb (length s) 1 && starts (99 ∷ []) s)
 
-abbrev pub asProblem : Pair → Shape
-asProblem (pair.Both v e) = Problem v e
-asProblem pair.Wrong = Unknown
+-- ---- the lines of a text
+-- one more byte at the front of the first line
+abbrev pub grow : ℕ → List (List ℕ) → List (List ℕ)
+grow x [] = (x ∷ []) ∷ []
+grow x (s ∷ ls) = (x ∷ s) ∷ ls
 
-abbrev pub asEdge : Pair → Shape
-asEdge (pair.Both a b) = Edge a b
-asEdge pair.Wrong = Unknown
-
-abbrev pub pickShape : Bool → Shape → Shape → Shape
-pickShape true x y = x
-pickShape false x y = y
-
--- the shape of a line: a comment, "p edge V E", "e A B", or none of these
-unfoldable pub shapeOf : List ℕ → Shape
-shapeOf s =
-    pickShape (isComment s) Comment
-    (pickShape (starts (112 ∷ 32 ∷ 101 ∷ 100 ∷ 103 ∷ 101 ∷ 32 ∷ []) s) (asProblem (pairIn (drop 7 s)))
-    (pickShape (starts (101 ∷ 32 ∷ []) s) (asEdge (pairIn (drop 2 s))) Unknown))
+-- the lines of a text, without their line feeds: a final line feed opens no further line
+unfoldable pub linesOf : List ℕ → List (List ℕ)
+linesOf [] = []
+linesOf (x ∷ t) = elim (eqb x 10) [ true ↦ [] ∷ linesOf t | false ↦ grow x (linesOf t) ]

@@ -1,8 +1,8 @@
-// What a line of a graph file is: its bytes without the line feed. Contracts cite specs/Lines.
+// Words, numbers and comments in the lines of a text, for any kind of file. A line is its bytes without the line feed. Contracts cite specs/Lines.
 ghost use mathlib.Core.Path.{_≡_};
 ghost use Prim.Native.Nat.{_≤_};
 ghost use lib.ListN.{length};
-ghost use Rattle.lines.specs.Lines.{firstOf, decimalFrom, isPadded, numberIn, both, pairIn, starts, isComment, asProblem, asEdge, shapeOf};
+ghost use Rattle.lines.specs.Lines.{firstOf, decimalFrom, isPadded, numberIn, both, pairIn, starts, isComment};
 
 // What the bytes of a number write.
 pub enum Number {
@@ -14,14 +14,6 @@ pub enum Number {
 pub enum Pair {
     Both { one: u64, other: u64 },
     Wrong,
-}
-
-// What a line says. A line of no known shape is unknown.
-pub enum Shape {
-    Comment,
-    Problem { vertices: u64, edges: u64 },
-    Edge { one: u64, other: u64 },
-    Unknown,
 }
 
 // How many bytes stand before the first b: all where there is none.
@@ -76,7 +68,7 @@ fn padded(bytes: &[u8]) -> bool
 }
 
 // A number of 1 to 5 digits without leading zeros.
-fn number_in(bytes: &[u8]) -> Number
+pub fn number_in(bytes: &[u8]) -> Number
     ensures { λ r. ⌜ r ≡ numberIn (now (bytes .entry)) ⌝ }
 {
     if bytes.len() < 1 {
@@ -104,7 +96,7 @@ fn join(a: Number, b: Number) -> Pair
 }
 
 // Two numbers with one space between them.
-fn pair_in(bytes: &[u8]) -> Pair
+pub fn pair_in(bytes: &[u8]) -> Pair
     ensures { λ r. ⌜ r ≡ pairIn (now (bytes .entry)) ⌝ }
 {
     let k = find(bytes, 32);
@@ -117,7 +109,7 @@ fn pair_in(bytes: &[u8]) -> Pair
 }
 
 // Whether a line begins with these bytes.
-fn begins(line: &[u8], front: &[u8]) -> bool
+pub fn begins(line: &[u8], front: &[u8]) -> bool
     ensures { λ r. ⌜ r ≡ starts (now (front .entry)) (now (line .entry)) ⌝ }
 {
     if line.len() < front.len() {
@@ -134,7 +126,7 @@ fn begins(line: &[u8], front: &[u8]) -> bool
 }
 
 // "c" alone, or "c " and any bytes.
-fn comment(line: &[u8]) -> bool
+pub fn comment(line: &[u8]) -> bool
     ensures { λ r. ⌜ r ≡ isComment (now (line .entry)) ⌝ }
 {
     if begins(line, b"c ") {
@@ -144,41 +136,4 @@ fn comment(line: &[u8]) -> bool
         return begins(line, b"c");
     }
     false
-}
-
-fn problem_line(p: Pair) -> Shape
-    ensures { λ r. ⌜ r ≡ asProblem p ⌝ }
-{
-    match p {
-        Pair::Both { one, other } => Shape::Problem {
-            vertices: one,
-            edges: other,
-        },
-        Pair::Wrong => Shape::Unknown,
-    }
-}
-
-fn edge_line(p: Pair) -> Shape
-    ensures { λ r. ⌜ r ≡ asEdge p ⌝ }
-{
-    match p {
-        Pair::Both { one, other } => Shape::Edge { one, other },
-        Pair::Wrong => Shape::Unknown,
-    }
-}
-
-// The shape of a line.
-pub fn shape_of(line: &[u8]) -> Shape
-    ensures { λ r. ⌜ r ≡ shapeOf (now (line .entry)) ⌝ }
-{
-    if comment(line) {
-        return Shape::Comment;
-    }
-    if begins(line, b"p edge ") {
-        return problem_line(pair_in(&line[7..]));
-    }
-    if begins(line, b"e ") {
-        return edge_line(pair_in(&line[2..]));
-    }
-    Shape::Unknown
 }

@@ -1,5 +1,5 @@
 pub mod PolyLaw
 pub mod TableLaw
-pub mod MeanLaw
-pub mod SlotLaw
 pub mod FormLaw
+pub mod TermsLaw
+pub mod QuadLaw

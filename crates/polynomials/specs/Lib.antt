@@ -1,1 +1,2 @@
 pub mod Poly
+pub mod Terms

@@ -1,11 +1,3 @@
 pub mod RecordLaw
 pub mod VerdictLaw
-pub mod SessionLaw
-pub mod PlaceLaw
-pub mod ChangeLaw
-pub mod SlotsLaw
-pub mod SystemLaw
-pub mod DemandLaw
-pub mod Starred
-pub mod OpenLaw
 pub mod RanLaw

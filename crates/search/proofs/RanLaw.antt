@@ -1,13 +1,13 @@
 -- A call that nothing refuses: the walk from the opened record is the call on the walk of the system, and leaves the record opened where it came to.
 use mathlib.Core.Path.{_≡_, refl, sym, ap, ap₂, subst, _∙_}
-use mathlib.Core.Bool.{Bool, true, false, _&&_}
+use mathlib.Core.Bool.{Bool, true}
 use mathlib.Core.Logic.{by-cases}
 use mathlib.Core.List.{List}
-use Prim.Native.Nat.{ℕ, zero, suc, _+_, _-_, _*_, _%_, _^_, _≤_, _<_}
+use Prim.Native.Nat.{ℕ, _+_, _-_, _%_, _^_, _≤_, _<_}
 use native.Mathlib.Nat.{mod-mod, mod-eq-of-lt}
 use native.Mathlib.Decide.{decLt}
 use native.Mathlib.Omega.{arith}
-use lib.Dec.{eqb, leb, ltb}
+use lib.Dec.{leb}
 use lib.ListN.{length, getD, List·getD-eq-default}
 use lib.Seq.{ext-getD}
 use borrow.Author.Tests.{leb-true, lt-ltb}
@@ -17,34 +17,33 @@ use Rattle.trits.specs.Trit.{trit, Legal, ofTrits, none}
 use Rattle.trits.proofs.Bits.{and-left, and-right}
 use Rattle.trits.proofs.ExtLaw.{trit-of, legal-of}
 use Rattle.trits.proofs.LegalLaw.{legal-none, trit-lt}
-use Rattle.gray.specs.Positions.{latest}
+use Rattle.positions.specs.Positions.{latest}
 use Rattle.gray.specs.Numbers.{pointDigit}
-use Rattle.polynomials.specs.Poly.{Poly, valueOf, changeOf, eval, diff, tableOf, backOf}
+use Rattle.polynomials.specs.Poly.{Poly, valueOf, changeOf, eval, diff}
 use Rattle.polynomials.proofs.FormLaw.{eval-value, diff-change, table-back, half-three}
 use Rattle.tables.specs.Monomials.{indexOf}
 use Rattle.tables.specs.Words.{entry, polyAt}
 use Rattle.tables.specs.Answers.{checkedOf}
 use Rattle.tables.proofs.IndexLaw.{index-lt}
-use Rattle.walks.specs.Walk.{runOf}
-use Rattle.walks.specs.Calls.{Trail, pointsIn, costIn, zerosIn, stopAt, reportOf, listAfter}
-use Rattle.walks.specs.declared.Report.{Report}
+use Rattle.walks.specs.Calls.{pointsIn, reportOf, listAfter}
 use Rattle.walk.specs.declared.Ran.{Ran}
 use Rattle.walk.specs.declared.Walker.{Walker}
-use Rattle.walk.specs.Step.{State, walkOf}
-use Rattle.walk.specs.Run.{stateOf, fresh, product, haltOf, searchOf}
-use Rattle.walk.specs.Meaning.{Good, Sees, Stands, Tabled, Answers}
-use Rattle.walk.proofs.MeanLaw.{stands-value, stands-slot}
+use Rattle.moves.specs.Step.{State, walkOf}
+use Rattle.moves.specs.Moves.{product}
+use Rattle.walk.specs.Run.{stateOf, fresh, haltOf, searchOf}
+use Rattle.walk.specs.Meaning.{Stands, Tabled, Answers}
+use Rattle.walk.proofs.MeanLaw.{stands-value, stands-slot, opened-stands, differences-tabled}
 use Rattle.walk.proofs.CallLaw.{call-is}
-use Rattle.search.specs.declared.Record.{Record}
+use Rattle.opening.specs.declared.Record.{Record}
 use Rattle.search.specs.declared.Outcome.{Outcome}
 use Rattle.search.specs.declared.Answer.the-variants as answer
-use Rattle.search.specs.Opened.{systemOf, valueAt, slotOr, slotAt, slotsAt, openedAt}
+use Rattle.opening.specs.Opened.{systemOf, valueAt, slotOr, slotAt, slotsAt, openedAt}
 use Rattle.search.specs.Search.{trailOf, sameRecord, fits, ranOf}
 use Rattle.search.specs.Parts.{stopFrom, reportedOf}
-use Rattle.search.proofs.PlaceLaw.{two}
+use Rattle.opening.proofs.PlaceLaw.{two}
 use Rattle.search.proofs.RecordLaw.{record-same}
-use Rattle.search.proofs.SystemLaw.{slot-none, slots-length, slots-at}
-use Rattle.search.proofs.OpenLaw.{within, table-legal}
+use Rattle.opening.proofs.SystemLaw.{slot-none, slots-length, slots-at}
+use Rattle.opening.proofs.OpenLaw.{within, table-legal}
 
 module _ (n m : ℕ) (t : List ℕ) where
   -- a record that fits is the one opened at its place
@@ -62,10 +61,6 @@ module _ (n m : ℕ) (t : List ℕ) where
   unfolding slotAt
   slot-used q b h = ap (λ (z : Bool). slotOr z (ofTrits m (λ e. changeOf 3 (S e) n b (pointDigit 3 (latest 3 b q - 1))))) (lt-ltb b n h)
 
-  slot-legal : (q b : ℕ) → Legal m (slotAt n m t q b)
-  slot-legal q b =
-      by-cases (decLt b n) (λ h. rw (slot-used q b h) (legal-of m _)) (λ h. rw (slot-none n m t q b (omega arith)) (legal-none m))
-
   -- a slot of the list, also past its end
   at-slot : (q i : ℕ) → i < 20 → getD (slotsAt n m t q 0 20) i none ≡ slotAt n m t q i
   at-slot q i h = slots-at n m t q 0 20 i h ∙ ap (slotAt n m t q) (plain i)
@@ -76,52 +71,24 @@ module _ (n m : ℕ) (t : List ℕ) where
   past-slot : (q i : ℕ) → 20 ≤ i → getD (slotsAt n m t q 0 20) i none ≡ none
   past-slot q i h = List·getD-eq-default (slotsAt n m t q 0 20) none (omega (arith, slots-length n m t q 0 20))
 
-  value-legal : (q : ℕ) → Legal m (valueAt n m t q)
-  unfolding valueAt
-  value-legal q = legal-of m _
-
-  value-trit : (q e : ℕ) → e < m → trit (valueAt n m t q) e ≡ eval (S e) n (pointDigit 3 q) % 3
-  unfolding valueAt
-  value-trit q e h = trit-of m (λ e. valueOf (S e) n (pointDigit 3 q)) e h ∙ ap (λ (x : ℕ). x % 3) (sym (eval-value (S e) n (pointDigit 3 q)))
-
-  slot-trit : (q b e : ℕ) → b < n → e < m → trit (slotAt n m t q b) e ≡ diff (S e) n b (pointDigit 3 (latest 3 b q - 1)) % 3
-  slot-trit q b e h l =
-      let x = pointDigit 3 (latest 3 b q - 1) in
-      ap (λ (v : Vector). trit v e) (slot-used q b h) ∙ trit-of m (λ e. changeOf 3 (S e) n b x) e l
-      ∙ ap (λ (y : ℕ). y % 3) (sym (diff-change 3 two (S e) n b x h)) ∙ mod-mod (diff (S e) n b x) 3
-
   abbrev walkerAt : ℕ → Walker
   walkerAt p = record { place = p; value = valueAt n m t (p - 1); slots = slotsAt n m t (p - 1) 0 20 }
 
   pub stands-open : n ≤ 20 → (p : ℕ) (l : List ℕ) → Stands S n m p (fresh (walkerAt p) l)
+  unfolding valueAt
   stands-open small p l =
-      record {
-        place = refl;
-        good = record {
-          value = value-legal (p - 1);
-          slots = λ i. by-cases (decLt i 20)
-              (λ h. rw (at-slot (p - 1) i h) (slot-legal (p - 1) i))
-              (λ h. rw (past-slot (p - 1) i (omega arith)) (legal-none m));
-        };
-        sees = λ e h. record {
-          place = refl;
-          room = omega (arith, slots-length n m t (p - 1) 0 20);
-          value = value-trit (p - 1) e h;
-          slots = λ b k. ap (λ (v : Vector). trit v e) (at-slot (p - 1) b (omega arith)) ∙ slot-trit (p - 1) b e k h;
-        };
-        rest = λ i h. by-cases (decLt i 20)
-            (λ k. at-slot (p - 1) i k ∙ slot-none n m t (p - 1) i h)
-            (λ k. past-slot (p - 1) i (omega arith));
-      }
+      opened-stands S n m p (fresh (walkerAt p) l) refl (omega (arith, slots-length n m t (p - 1) 0 20)) refl
+      (λ b h. at-slot (p - 1) b (omega arith) ∙ slot-used (p - 1) b h)
+      (λ i h. by-cases (decLt i 20) (λ k. at-slot (p - 1) i k ∙ slot-none n m t (p - 1) i h) (λ k. past-slot (p - 1) i (omega arith)))
 
   -- ---- the table holds the differences of the system
   pub tabled : checkedOf n m t ≡ verdict.Done → Tabled S n m (product t n)
   unfolding systemOf polyAt
   tabled ok =
-      record {
-        legal = λ b c h l. table-legal n m t ok .legal _ (index-lt n b c h l);
-        entry = λ e b c k h l. sym (table-back 3 two 2 half-three (polyAt n t e) b c (trit-lt (entry t (indexOf n b c)) e));
-      }
+      differences-tabled S n m (product t n) (λ b c h l. table-legal n m t ok .legal _ (index-lt n b c h l))
+      (λ e b c k h l.
+      let small = trit-lt (entry t (indexOf n b c)) e in
+      sym (mod-eq-of-lt small) ∙ ap (λ (x : ℕ). x % 3) (sym (table-back 3 two 2 half-three (polyAt n t e) b c small)))
 
   -- ---- a state that stands at p is the record opened at p
   pub opened-at : (p : ℕ) (s : State) → length (s .slots) ≡ 20 → Stands S n m p s

@@ -3,7 +3,7 @@ use mathlib.Core.Path.{_≡_, refl, sym, ap, ap₂, _∙_}
 use mathlib.Core.Bool.{Bool, true, false, _&&_}
 use mathlib.Core.Logic.{_↔_}
 use mathlib.Core.List.{List, [], _∷_}
-use Prim.Native.Nat.{ℕ, zero, suc, _+_, _≤_, _<_}
+use Prim.Native.Nat.{ℕ, _+_, _≤_, _<_}
 use native.Mathlib.Numerals.{add-one}
 use lib.Dec.{eqb}
 use lib.ListN.{length, getD, drop, drop-of-length-le}
@@ -12,7 +12,7 @@ use borrow.Author.Tests.{eqb-true, eq-eqb}
 use Rattle.trits.specs.declared.Vector.{Vector}
 use Rattle.trits.specs.Trit.{none}
 use Rattle.trits.proofs.Bits.{and-left, and-right}
-use Rattle.search.specs.declared.Record.{Record}
+use Rattle.opening.specs.declared.Record.{Record}
 use Rattle.search.specs.Search.{sameVector, sameVectors, sameRecord}
 
 self : (x : ℕ) → eqb x x ≡ true

@@ -1,5 +1,2 @@
-pub mod Opened
 pub mod Parts
 pub mod Search
-pub mod Session
-pub mod Demand

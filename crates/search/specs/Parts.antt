@@ -1,27 +1,12 @@
--- What the parts of opening give, over the coefficients: for the code alone; a reader goes by specs/Opened.
-use mathlib.Core.Path.{_≡_}
-use mathlib.Core.List.{List}
-use Prim.Native.Nat.{ℕ, _-_, _≤_, _<_}
+-- What the parts of a call give: for the code alone; a reader goes by specs/Search.
+use Prim.Native.Nat.{ℕ, _-_}
 use lib.Dec.{eqb}
-use lib.ListN.{length, getD}
-use Rattle.trits.specs.declared.Vector.{Vector}
-use Rattle.trits.specs.Trit.{Holds, none}
-use Rattle.gray.specs.Positions.{latest}
-use Rattle.gray.specs.Numbers.{pointDigit}
-use Rattle.polynomials.specs.Poly.{diff}
-use Rattle.tables.specs.Words.{Table, polyAt}
 use Rattle.walks.specs.Calls.{pick}
 use Rattle.walks.specs.declared.Stop.{Stop}
 use Rattle.walks.specs.declared.Stop.the-variants.{Ended, Full, Spent}
 use Rattle.walk.specs.declared.Ran.{Ran}
 use Rattle.search.specs.declared.Outcome.{Outcome}
 use Rattle.search.specs.declared.Answer.the-variants as answer
-
--- twenty slots: the first n hold the changes, the others are zero
-pub record Slots (n : ℕ) (c : List ℕ) (q : ℕ) (s : List Vector) : Type 0 where
-  pub long : length s ≡ 20
-  pub used : (m : ℕ) → Table n m c → (b : ℕ) → b < n → Holds m (λ e. diff (polyAt n c e) n b (pointDigit 3 (latest 3 b q - 1))) (getD s b none)
-  pub unused : (b : ℕ) → n ≤ b → getD s b none ≡ none
 
 -- why a walk stopped before place p, and the outcome of what a walker did from place q on
 abbrev pub stopFrom : ℕ → ℕ → ℕ → ℕ → Stop

@@ -14,11 +14,11 @@ use Rattle.tables.specs.Answers.{long, paired}
 use Rattle.walks.specs.Calls.{Trail, pointsIn, stopNumber, stopPlace, reportOf, listAfter}
 use Rattle.walks.specs.declared.Report.{Report}
 use Rattle.walk.specs.Meaning.{trailOf as walkTrail}
-use Rattle.search.specs.declared.Record.{Record}
+use Rattle.opening.specs.declared.Record.{Record}
 use Rattle.search.specs.declared.Answer.{Answer}
 use Rattle.search.specs.declared.Answer.the-variants.{Ran, Refused}
 use Rattle.search.specs.declared.Outcome.{Outcome}
-use Rattle.search.specs.Opened.{systemOf, openedAt}
+use Rattle.opening.specs.Opened.{systemOf, openedAt}
 
 -- the walk of the system behind a table (walk/specs/Meaning): 3^n places; a zero is a common zero of the m equations,
 -- listed as its point; a place costs an addition for its value and one more where it has a second position
@@ -43,12 +43,16 @@ sameRecord r s =
 abbrev pub fits : ℕ → ℕ → List ℕ → Record → Bool
 fits n m t r = leb (r .place .0) (3 ^ n) && sameRecord r (openedAt n m t (r .place .0))
 
-abbrev pub searchVerdict : ℕ → ℕ → List ℕ → Record → ℕ → List ℕ → Verdict
-searchVerdict n m t r b l =
+-- what a call is refused for, with a list of c entries
+abbrev pub roomVerdict : ℕ → ℕ → List ℕ → Record → ℕ → ℕ → Verdict
+roomVerdict n m t r b c =
     sized n m
     (long n t
     (paired n m t
-    (refuse (not (fits n m t r)) refusal.Record (refuse (eqb b 0) refusal.Budget (refuse (eqb (length l) 0) refusal.List verdict.Done)))))
+    (refuse (not (fits n m t r)) refusal.Record (refuse (eqb b 0) refusal.Budget (refuse (eqb c 0) refusal.List verdict.Done)))))
+
+abbrev pub searchVerdict : ℕ → ℕ → List ℕ → Record → ℕ → List ℕ → Verdict
+searchVerdict n m t r b l = roomVerdict n m t r b (length l)
 
 -- the answer: what the call did, or the refusal alone
 abbrev pub answerFrom : Verdict → Outcome → Answer
@@ -86,7 +90,7 @@ answerValues e (Refused f) = []
 
 -- what a call has to tell by them
 abbrev pub valuesFrom : Verdict → ℕ → Report → List ℕ
-valuesFrom verdict.Done e w = stopNumber (w .stop) ∷ stopPlace e (w .stop) ∷ w .points ∷ w .additions ∷ w .found ∷ []
+valuesFrom verdict.Done e w = answerValues e (Ran w)
 valuesFrom (verdict.Refused f) e w = []
 
 pub record Tells (n m : ℕ) (t : List ℕ) (r : Record) (b : ℕ) (l : List ℕ) (a : Answer) : Type 0 where

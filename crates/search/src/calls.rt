@@ -1,23 +1,23 @@
 // One call of the search, step by step: what is judged after the table, and the report of a walk that ran.
 use crate::Answer;
 use crate::Outcome;
-use crate::Record;
-use crate::opening::opened;
 use crate::records::same_record;
 use gray::Place;
+use opening::Record;
 use refusals::Refusal;
+use refusals::Verdict;
 use walk::Ran;
 use walk::Walker;
 use walks::Report;
 use walks::Stop;
 ghost use mathlib.Core.Path.{_≡_};
 ghost use mathlib.Core.Bool.{true};
-ghost use Prim.Native.Nat.{_≤_, _+_, _^_};
+ghost use Prim.Native.Nat.{_≤_};
 ghost use lib.ListN.{length};
 ghost use Rattle.refusals.specs.declared.Verdict.the-variants.{Done};
 ghost use Rattle.tables.specs.Answers.{checkedOf};
 ghost use Rattle.walks.specs.Calls.{listAfter};
-ghost use Rattle.search.specs.Search.{trailOf, fits, ranOf, outcomeOf, listOf, Tells};
+ghost use Rattle.search.specs.Search.{trailOf, fits, roomVerdict, ranOf, outcomeOf, listOf, Tells};
 ghost use Rattle.search.specs.Parts.{stopFrom, reportedOf};
 
 // Whether a record is that of a checked table at its place.
@@ -26,15 +26,15 @@ fn fits_table(n: u64, m: u64, table: &[u64], r: Record) -> bool
     ensures { λ b. ⌜ b ≡ fits n m (now (table .entry)) r ⌝ }
 {
     let at = r.place.0;
-    if at > gray::power(n) {
+    if at > positions::power(n) {
         return false;
     }
-    let o = opened(n, m, table, at);
+    let o = opening::record_at(n, m, table, at);
     same_record(r, o)
 }
 
 // Why a walk stopped before place at: asked in the order ended, full, spent.
-fn stop_of(at: u64, end: u64, found: usize, len: usize) -> Stop
+pub fn stop_of(at: u64, end: u64, found: usize, len: usize) -> Stop
     ensures { λ s. ⌜ s ≡ stopFrom at end found len ⌝ }
 {
     if at == end {
@@ -73,8 +73,8 @@ fn reported(n: u64, m: u64, from: u64, end: u64, len: usize, t: Ran) -> Outcome
     }
 }
 
-// The walk of a call that nothing refuses.
-fn ran(n: u64, m: u64, table: &[u64], r: Record, budget: u64, list: &mut [u64]) -> Outcome
+// The walk of a call that nothing refuses. Public for lists that are filled piece by piece, whose calls are judged once.
+pub fn ran(n: u64, m: u64, table: &[u64], r: Record, budget: u64, list: &mut [u64]) -> Outcome
     requires { ⌜ (checkedOf n m (now table) ≡ Done) × (fits n m (now table) r ≡ true) ⌝ }
     ensures { λ o. ⌜ (o ≡ ranOf n m (now (table .entry)) (r .place .0) budget (length (now (list .entry))))
         × (now (list .exit) ≡ listAfter (trailOf n m (now (table .entry))) budget (r .place .0) (now (list .entry))) ⌝ }
@@ -87,7 +87,7 @@ fn ran(n: u64, m: u64, table: &[u64], r: Record, budget: u64, list: &mut [u64]) 
         value,
         slots,
     };
-    let end = gray::power(n);
+    let end = positions::power(n);
     let len = list.len();
     let t = walk::run(table, n as usize, end, w, budget, list);
     reported(n, m, from, end, len, t)
@@ -103,29 +103,32 @@ fn turned_away(f: Refusal, r: Record) -> Outcome
     }
 }
 
-// The table was checked: record, budget and list are left to judge.
-fn search_checked(
-    n: u64,
-    m: u64,
-    table: &[u64],
-    r: Record,
-    budget: u64,
-    list: &mut [u64],
-) -> Outcome
+// The table was checked: record, budget and the list's length are left to judge.
+fn judged_checked(n: u64, m: u64, table: &[u64], r: Record, budget: u64, room: usize) -> Verdict
     requires { ⌜ checkedOf n m (now table) ≡ Done ⌝ }
-    ensures { λ o. ⌜ (o ≡ outcomeOf n m (now (table .entry)) r budget (now (list .entry)))
-        × (now (list .exit) ≡ listOf n m (now (table .entry)) r budget (now (list .entry))) ⌝ }
+    ensures { λ v. ⌜ v ≡ roomVerdict n m (now (table .entry)) r budget room ⌝ }
 {
     if !fits_table(n, m, table, r) {
-        return turned_away(Refusal::Record, r);
+        return Verdict::Refused(Refusal::Record);
     }
     if budget == 0 {
-        return turned_away(Refusal::Budget, r);
+        return Verdict::Refused(Refusal::Budget);
     }
-    if list.len() == 0 {
-        return turned_away(Refusal::List, r);
+    if room == 0 {
+        return Verdict::Refused(Refusal::List);
     }
-    ran(n, m, table, r, budget, list)
+    Verdict::Done
+}
+
+// All that a call is refused for, with a list of so many entries.
+pub fn judged(n: u64, m: u64, table: &[u64], r: Record, budget: u64, room: usize) -> Verdict
+    ensures { λ v. ⌜ v ≡ roomVerdict n m (now (table .entry)) r budget room ⌝ }
+{
+    let verdict = tables::check(n, m, table);
+    match verdict {
+        Verdict::Refused(f) => Verdict::Refused(f),
+        Verdict::Done => judged_checked(n, m, table, r, budget, room),
+    }
 }
 
 // One call: at most budget points from the record's place on, each common zero's point listed from the front of list.
@@ -134,9 +137,9 @@ pub fn search(n: u64, m: u64, table: &[u64], r: Record, budget: u64, list: &mut 
         × (now (list .exit) ≡ listOf n m (now (table .entry)) r budget (now (list .entry)))
         × Tells n m (now (table .entry)) r budget (now (list .entry)) (o .answer) ⌝ }
 {
-    let verdict = tables::check(n, m, table);
+    let verdict = judged(n, m, table, r, budget, list.len());
     match verdict {
-        refusals::Verdict::Refused(f) => turned_away(f, r),
-        refusals::Verdict::Done => search_checked(n, m, table, r, budget, list),
+        Verdict::Refused(f) => turned_away(f, r),
+        Verdict::Done => ran(n, m, table, r, budget, list),
     }
 }

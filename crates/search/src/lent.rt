@@ -1,7 +1,7 @@
 // The search on a record that is lent to it.
 use crate::Answer;
-use crate::Record;
 use crate::calls::search;
+use opening::Record;
 ghost use mathlib.Core.Path.{_≡_};
 ghost use Rattle.search.specs.Search.{outcomeOf, listOf, Tells};
 

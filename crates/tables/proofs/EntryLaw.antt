@@ -3,24 +3,23 @@ use mathlib.Core.Path.{_≡_, refl, sym, ap, ap₂, _∙_}
 use mathlib.Core.List.{List}
 use mathlib.Core.Logic.{by-cases}
 use Prim.Native.Nat.{ℕ, zero, suc, _+_, _-_, _*_, _%_, _^_, _≤_, _<_}
-use native.Mathlib.Nat.{mod-lt, mul-one, mod-eq-of-lt, mod-mod, mod-add-mod}
+use native.Mathlib.Nat.{mod-lt, one-le-pow, mod-eq-of-lt, mod-mod, mod-add-mod}
 use native.Mathlib.Decide.{ℕ-discrete}
 use native.Mathlib.Omega.{arith}
 use Rattle.residues.proofs.ModLaw.{Cong, cof, _⨾_, cdrop, csmall, cadd, crefl}
 use Rattle.trits.specs.Trit.{trit}
-use Rattle.gray.specs.Positions.{lowestOf, latest, before}
+use Rattle.positions.specs.Positions.{lowestOf, latest}
 use Rattle.gray.specs.Numbers.{pointDigit}
-use Rattle.gray.proofs.LatestLaw.{before-is}
-use Rattle.gray.proofs.LowestLaw.{of-lt}
+use Rattle.positions.proofs.PositionLaw.{positions-two}
+use Rattle.positions.proofs.LowestLaw.{of-lt}
 use Rattle.polynomials.specs.Poly.{Poly, prev, changeOf, diff, tableOf}
 use Rattle.polynomials.proofs.TableLaw.{same-is, other-is, table-lin}
 use Rattle.polynomials.proofs.FormLaw.{three-same, three-other, diff-change}
-use Rattle.polynomials.proofs.MeanLaw.{slotOf, slot-first}
-use Rattle.polynomials.proofs.SlotLaw.{slotAt, slot-two}
+use Rattle.polynomials.proofs.QuadLaw.{first-lin, slot-step}
 use Rattle.tables.specs.Monomials.{countOf, indexOf}
 use Rattle.tables.specs.Words.{entry, polyAt, differencesOf}
 use Rattle.tables.specs.Differences.{Formulas}
-use Rattle.tables.proofs.WordLaw.{trit-lt}
+use Rattle.trits.proofs.LegalLaw.{trit-lt}
 use Rattle.tables.proofs.RoundLaw.{differences-hold}
 
 two : 1 < 3
@@ -67,23 +66,20 @@ module _ (n m : ℕ) (c : List ℕ) (e : ℕ) (l : e < m) where
 
   -- the entry of xi: the change of unknown i at the point of place 3^i - 1, just before its first move
   pub single-means : (i : ℕ) → i < n → trit (entry (differencesOf n m c) (1 + i)) e ≡ changeOf 3 (polyAt n c e) n i (pointDigit 3 (3 ^ i - 1))
-  unfolding slotOf
   single-means i h =
-      let w : suc (before 3 i 0) ≡ 3 ^ i = before-is 3 two i 0 ∙ mul-one (3 ^ i) in
-      let p : before 3 i 0 ≡ 3 ^ i - 1 = omega arith in
-      lin-holds i h ∙ sym (mod-eq-of-lt (lin-small i)) ∙ sym (slot-first 3 two (polyAt n c e) n i h .same)
-      ∙ diff-change 3 two (polyAt n c e) n i (pointDigit 3 (before 3 i 0)) h ∙ ap (λ (x : ℕ). changeOf 3 (polyAt n c e) n i (pointDigit 3 x)) p
+      let w : suc (3 ^ i - 1) ≡ 3 ^ i = omega (arith, one-le-pow i 3 (omega arith)) in
+      lin-holds i h ∙ sym (mod-eq-of-lt (lin-small i)) ∙ sym (first-lin 3 two (polyAt n c e) n i (3 ^ i - 1) h w .same)
+      ∙ diff-change 3 two (polyAt n c e) n i (pointDigit 3 (3 ^ i - 1)) h
 
   -- the entry of xb xc: what the change of unknown b grows by, from its move before place p + 1 to place p + 1, whose first positions are b and c
   pub product-means : (p : ℕ) → suc p < 3 ^ n → 0 < suc p - 3 ^ lowestOf 3 (suc p)
       → let b = lowestOf 3 (suc p) in
       changeOf 3 (polyAt n c e) n b (pointDigit 3 (latest 3 b (suc p) - 1))
       ≡ (changeOf 3 (polyAt n c e) n b (pointDigit 3 (latest 3 b p - 1)) + tableOf 3 (polyAt n c e) .quad b (lowestOf 3 (suc p - 3 ^ b))) % 3
-  unfolding slotAt
   product-means p h z =
       let f = polyAt n c e in
       let b = lowestOf 3 (suc p) in
       let k : b < n = of-lt 3 two n (suc p) (omega arith) h in
-      sym (diff-change 3 two f n b (pointDigit 3 (latest 3 b (suc p) - 1)) k) ∙ slot-two 3 two f n b p h refl z .same
+      sym (diff-change 3 two f n b (pointDigit 3 (latest 3 b (suc p) - 1)) k) ∙ slot-step 3 two f n b (lowestOf 3 (suc p - 3 ^ b)) p _ h (positions-two 3 two (suc p) (omega arith) z) .same
       ∙ sym (mod-add-mod (diff f n b (pointDigit 3 (latest 3 b p - 1))) 3 (tableOf 3 f .quad b (lowestOf 3 (suc p - 3 ^ b))))
       ∙ ap (λ (x : ℕ). (x + tableOf 3 f .quad b (lowestOf 3 (suc p - 3 ^ b))) % 3) (diff-change 3 two f n b (pointDigit 3 (latest 3 b p - 1)) k)

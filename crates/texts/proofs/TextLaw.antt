@@ -8,7 +8,7 @@ use native.Mathlib.Nat.{pow-succ'}
 use borrow.Author.Tests.{lt-ltb, le-ltb}
 use lib.ListN.{length, getD, set, take, drop, length-append, length-drop, length-set}
 use lib.Seq.{length-take-le, take-suc-set, drop-cons, drop-length, drop-drop, drop-set-lt, getD-set-same, take-all}
-use Rattle.texts.specs.Text.{decimalIn, decimalOf, digitsOf, layoutLine, layoutLines, Put}
+use Rattle.texts.specs.Text.{decimalIn, decimalOf, Put}
 
 -- ---- what was put
 -- bytes that are the same from k on are so from j on
@@ -102,40 +102,6 @@ spell-turn l i x w h g t e =
 
 pub spell-last : (l : List ℕ) (i x : ℕ) (w : List ℕ) → i < length l → x < 10 → decimalIn (suc i) x ++ drop (suc i) l ≡ w → drop i (set l i (48 + x)) ≡ w
 spell-last l i x w h t e = drop-set l i (48 + x) h ∙ ap (λ (m : List ℕ). m ++ drop (suc i) l) (sym (decimal-one i x t)) ∙ e
-
--- ---- digits of a point
-pub digits-none : (n x : ℕ) → n ≡ 0 → digitsOf n x ≡ []
-unfolding digitsOf
-digits-none zero x e = refl
-digits-none (suc n) x e = absurd (omega arith)
-
-pub digits-more : (n x : ℕ) → digitsOf (suc n) x ≡ (48 + x % 3) ∷ digitsOf n (x / 3)
-unfolding digitsOf
-digits-more n x = refl
-
-pub digits-turn : (l : List ℕ) (k end x : ℕ) → k < length l → k < end → take (k + 1) (set l k (48 + x % 3)) ++ digitsOf (end - (k + 1)) (x / 3) ≡ take k l ++ digitsOf (end - k) x
-digits-turn l k end x h g =
-    let e : suc (end - (k + 1)) ≡ end - k = omega arith in
-    byte-turn l k (48 + x % 3) (digitsOf (end - (k + 1)) (x / 3)) h
-    ∙ ap (λ (m : List ℕ). take k l ++ m) (sym (digits-more (end - (k + 1)) x) ∙ ap (λ (n : ℕ). digitsOf n x) e)
-
--- ---- lines
-pub lines-none : (n : ℕ) (s : List ℕ) → s ≡ [] → layoutLines n s ≡ []
-unfolding layoutLines
-lines-none n [] e = refl
-lines-none n (x ∷ s) e = cc
-
-pub lines-more : (n x : ℕ) (s : List ℕ) → layoutLines n (x ∷ s) ≡ layoutLine n x ++ layoutLines n s
-unfolding layoutLines
-lines-more n x s = refl
-
-pub lines-turn : (n : ℕ) (a : List ℕ) (j : ℕ) (b : List ℕ) (k i : ℕ) (s : List ℕ) → i < length s → Put a j (layoutLine n (getD s i 0)) b k → take k b ++ layoutLines n (drop (i + 1) s) ≡ take j a ++ layoutLines n (drop i s)
-lines-turn n a j b k i s h p =
-    let x = getD s i 0 in
-    ap (λ (m : List ℕ). m ++ layoutLines n (drop (i + 1) s)) (p .front)
-    ∙ append-assoc (take j a) (layoutLine n x) (layoutLines n (drop (i + 1) s))
-    ∙ ap (λ (m : ℕ). take j a ++ (layoutLine n x ++ layoutLines n (drop m s))) (add-one i)
-    ∙ ap (λ (m : List ℕ). take j a ++ m) (sym (lines-more n x (drop (suc i) s)) ∙ ap (layoutLines n) (sym (drop-cons s i 0 h)))
 
 -- a number that was put is what stands at the end of 20 bytes
 pub number-put : (a : List ℕ) (at : ℕ) (bytes : List ℕ) (first x : ℕ) (b : List ℕ) (k : ℕ) → first < 20 → length bytes ≡ 20 → drop first bytes ≡ decimalOf x → Put a at (take (20 - first) (drop first bytes)) b k → Put a at (decimalOf x) b k × (k ≤ at + 20)

@@ -1,12 +1,11 @@
-// The program's lines, put into a text that is lent: each function answers where the next byte goes.
-use gray::Point;
+// Bytes and numbers put into a text that is lent, for any program: each function answers where the next byte goes.
 ghost use mathlib.Core.Path.{_≡_};
-ghost use Prim.Native.Nat.{_+_, _*_, _≤_, _<_};
+ghost use Prim.Native.Nat.{_+_, _≤_, _<_};
 ghost use lib.ListN.{length, drop};
-ghost use Rattle.texts.specs.Text.{Put, decimalOf, digitsOf, layoutLine, layoutLines, headLine, totalsLine, refusalLine};
+ghost use Rattle.texts.specs.Text.{Put, decimalOf, refusalLine, longestRefusal};
 
 // Bytes as they are.
-fn put(text: &mut [u8], at: usize, s: &[u8]) -> usize
+pub fn put(text: &mut [u8], at: usize, s: &[u8]) -> usize
     requires { ⌜ at + length (now s) ≤ length (now text) ⌝ }
     ensures { λ r. ⌜ Put (now (text .entry)) at (now (s .entry)) (now (text .exit)) r ⌝ }
 {
@@ -19,7 +18,7 @@ fn put(text: &mut [u8], at: usize, s: &[u8]) -> usize
 }
 
 // The byte of a decimal digit.
-fn glyph(d: u64) -> u8
+pub fn glyph(d: u64) -> u8
     requires { ⌜ d < 10 ⌝ }
     ensures { λ r. ⌜ r ≡ 48 + d ⌝ }
 {
@@ -43,7 +42,7 @@ fn spell(bytes: &mut [u8], x: u64) -> usize
 }
 
 // A number in decimal digits.
-fn put_number(text: &mut [u8], at: usize, x: u64) -> usize
+pub fn put_number(text: &mut [u8], at: usize, x: u64) -> usize
     requires { ⌜ at + 20 ≤ length (now text) ⌝ }
     ensures { λ r. ⌜ Put (now (text .entry)) at (decimalOf x) (now (text .exit)) r × (r ≤ at + 20) ⌝ }
 {
@@ -52,80 +51,10 @@ fn put_number(text: &mut [u8], at: usize, x: u64) -> usize
     put(text, at, &bytes[first..])
 }
 
-// The n digits of a point, x0 first.
-fn put_digits(text: &mut [u8], at: usize, n: u64, x: u64) -> usize
-    requires { ⌜ (n ≤ 20) × (at + n ≤ length (now text)) ⌝ }
-    ensures { λ r. ⌜ Put (now (text .entry)) at (digitsOf n x) (now (text .exit)) r × (r ≤ at + 20) ⌝ }
-{
-    let end = at + n as usize;
-    let mut next = at;
-    let mut rest = x;
-    while next < end {
-        text[next] = glyph(rest % 3);
-        rest = rest / 3;
-        next += 1;
-    }
-    next
-}
-
-// The line of a layout: at most 63 bytes.
-fn put_layout(text: &mut [u8], at: usize, n: u64, x: u64) -> usize
-    requires { ⌜ (n ≤ 20) × (at + 63 ≤ length (now text)) ⌝ }
-    ensures { λ r. ⌜ Put (now (text .entry)) at (layoutLine n x) (now (text .exit)) r × (r ≤ at + 63) ⌝ }
-{
-    let place = gray::place_at(n, Point(x));
-    let a = put_number(text, at, place.0);
-    let b = put(text, a, b" ");
-    let c = put_number(text, b, x);
-    let d = put(text, c, b" ");
-    let e = put_digits(text, d, n, x);
-    put(text, e, b"\n")
-}
-
-// A line for each point of a list.
-pub fn put_layouts(text: &mut [u8], n: u64, points: &[u64]) -> usize
-    requires { ⌜ (n ≤ 20) × (63 * length (now points) ≤ length (now text)) ⌝ }
-    ensures { λ r. ⌜ Put (now (text .entry)) 0 (layoutLines n (now (points .entry))) (now (text .exit)) r × (r ≤ 63 * length (now (points .entry))) ⌝ }
-{
-    let mut next: usize = 0;
-    let mut i: usize = 0;
-    while i < points.len() {
-        next = put_layout(text, next, n, points[i]);
-        i += 1;
-    }
-    next
-}
-
-// The first line.
-pub fn put_head(text: &mut [u8], n: u64, m: u64) -> usize
-    requires { ⌜ 51 ≤ length (now text) ⌝ }
-    ensures { λ r. ⌜ Put (now (text .entry)) 0 (headLine n m) (now (text .exit)) r × (r ≤ 51) ⌝ }
-{
-    let a = put(text, 0, b"vars ");
-    let b = put_number(text, a, n);
-    let c = put(text, b, b" eqs ");
-    let d = put_number(text, c, m);
-    put(text, d, b"\n")
-}
-
-// The last line.
-pub fn put_totals(text: &mut [u8], at: usize, points: u64, additions: u64, found: u64) -> usize
-    requires { ⌜ at + 92 ≤ length (now text) ⌝ }
-    ensures { λ r. ⌜ Put (now (text .entry)) at (totalsLine points additions found) (now (text .exit)) r × (r ≤ at + 92) ⌝ }
-{
-    let a = put(text, at, b"points ");
-    let b = put_number(text, a, points);
-    let c = put(text, b, b" additions ");
-    let d = put_number(text, c, additions);
-    let e = put(text, d, b" found ");
-    let f = put_number(text, e, found);
-    put(text, f, b" ended\n")
-}
-
-// The only line of a refusal.
+// The only line of a program that refuses its text.
 pub fn put_refusal(text: &mut [u8], number: u64, line: u64) -> usize
-    requires { ⌜ 55 ≤ length (now text) ⌝ }
-    ensures { λ r. ⌜ Put (now (text .entry)) 0 (refusalLine number line) (now (text .exit)) r × (r ≤ 55) ⌝ }
+    requires { ⌜ longestRefusal ≤ length (now text) ⌝ }
+    ensures { λ r. ⌜ Put (now (text .entry)) 0 (refusalLine number line) (now (text .exit)) r × (r ≤ longestRefusal) ⌝ }
 {
     let a = put(text, 0, b"refused ");
     let b = put_number(text, a, number);

@@ -1,5 +1,3 @@
-pub mod Layout
 pub mod Call
 pub mod Operations
-pub mod Chunks
-pub mod Puts
+pub mod Written

@@ -3,12 +3,12 @@ use mathlib.Core.Path.{_≡_, refl}
 use mathlib.Core.List.{List, [], _∷_}
 use Prim.Native.Nat.{ℕ}
 use Rattle.trits.specs.Words.{addOf}
-use Rattle.gray.specs.Positions.{lowestIn, lowestOf, positionsIn, positions}
+use Rattle.positions.specs.Positions.{lowestIn, lowestOf, positionsIn, positions}
 use Rattle.gray.specs.Numbers.{digit, number, pointDigit, pointOf}
 use Rattle.tables.specs.Monomials.{rowStart, indexOf}
 use Rattle.tables.specs.Words.{entry}
 use Rattle.walks.specs.Walk.{stepOf, runOf}
-use Rattle.walk.specs.Step.{State, push, lift, bump, moveOf, noteBy}
+use Rattle.moves.specs.Step.{State, push, lift, bump, moveOf, noteBy}
 use Rattle.walk.specs.Run.{searchOf}
 
 -- its table of differences

@@ -1,9 +1,6 @@
-pub mod MoveLaw
-pub mod EntryLaw
-pub mod PartLaw
 pub mod SearchLaw
 pub mod WalkedLaw
-pub mod BlocksLaw
+pub mod LeapsLaw
 pub mod MeanLaw
 pub mod CallLaw
 pub mod Cases

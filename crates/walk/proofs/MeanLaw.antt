@@ -1,218 +1,141 @@
--- Each place keeps the meaning of the state: the value is the system's at the point, and each slot is the difference it will add.
+-- The engine's move is the move of what its states hold, in degree 2; and what value, slots and table stand for, in document 01's words.
 use mathlib.Core.Path.{_≡_, refl, sym, ap, _∙_}
 use mathlib.Core.List.{List, [], _∷_}
 use mathlib.Core.Logic.{by-cases}
-use Prim.Native.Nat.{ℕ, zero, suc, _+_, _-_, _*_, _/_, _%_, _^_, _<_, _≤_}
-use native.Mathlib.Nat.{mul-zero, mod-mod}
-use native.Mathlib.Decide.{ℕ-discrete, decLt}
-use native.Mathlib.Numerals.{add-one}
+use Prim.Native.Nat.{ℕ, suc, _+_, _-_, _%_, _<_, _≤_}
+use native.Mathlib.Nat.{mod-mod}
+use native.Mathlib.Decide.{ℕ-discrete}
 use native.Mathlib.Omega.{arith}
 use lib.ListN.{length, getD, set, length-set}
-use lib.Seq.{getD-set-same, getD-set-other, set-out}
-use Rattle.residues.proofs.ModLaw.{Cong, cof, csym, _⨾_, cdrop, cadd}
+use lib.Seq.{getD-set-same, getD-set-other}
+use Rattle.residues.proofs.ModLaw.{Cong}
 use Rattle.trits.specs.declared.Vector.{Vector}
-use Rattle.trits.specs.Trit.{trit, Legal, ofTrits, none}
+use Rattle.trits.specs.Trit.{trit, Legal, Holds, ofTrits, none}
 use Rattle.trits.specs.Words.{addOf}
 use Rattle.trits.proofs.SumLaw.{meets}
-use Rattle.trits.proofs.ExtLaw.{is-of, of-ext}
-use Rattle.gray.specs.Positions.{lowestOf, positions, latest}
-use Rattle.gray.specs.Numbers.{pointDigit, pointOf}
-use Rattle.gray.proofs.LowestLaw.{of-times, of-lt}
-use Rattle.gray.proofs.PositionLaw.{positions-none, positions-one, positions-two}
-use Rattle.gray.proofs.LatestLaw.{moves, moves-rest}
-use Rattle.polynomials.specs.Poly.{Poly, valueOf, changeOf, eval, diff, tableOf}
-use Rattle.polynomials.proofs.FormLaw.{eval-value, diff-change}
-use Rattle.polynomials.proofs.SlotLaw.{slotAt, slot-one, slot-two, slot-other, value-step}
-use Rattle.walks.specs.Walk.{stepOf}
-use Rattle.walk.specs.Step.{State, push, lift, bump, moveOf, noteBy, noteOf, walkOf}
-use Rattle.walk.specs.Meaning.{Good, Sees, Tabled, Stands}
-use Rattle.walk.proofs.MoveLaw.{two}
-use Rattle.walk.proofs.SearchLaw.{step-near}
+use Rattle.trits.proofs.HoldLaw.{holds-is, is-holds, holds-ext, holds-add}
+use Rattle.positions.specs.Positions.{latest}
+use Rattle.gray.specs.Numbers.{pointDigit}
+use Rattle.held.specs.Held.{held, move, along}
+use Rattle.held.specs.Stands.{Rises}
+use Rattle.held.proofs.KeepLaw.{move-self, move-other, move-leaf}
+use Rattle.held.proofs.StandLaw.{held-value}
+use Rattle.held.proofs.ExactLaw.{pair-place}
+use Rattle.polynomials.specs.Poly.{Poly, valueOf, changeOf, tableOf}
+use Rattle.polynomials.proofs.QuadLaw.{slot-change, quad-is}
+use Rattle.moves.specs.Step.{State, push, lift, bump, moveOf}
+use Rattle.walk.specs.Meaning.{heldBy, entryBy, Stands, Tabled}
+use Rattle.moves.proofs.MoveLaw.{two}
 
--- ---- the positions of a place are unknowns, the second not below the first
-pub record Pair (n p b c : ℕ) : Type 0 where
-  pub first : b < n
-  pub order : b ≤ c
-  pub second : c < n
+-- ---- state and table together
+unfoldable pub view : (ℕ → ℕ → Vector) → State → List ℕ → Vector
+view T s [] = s .value
+view T s (b ∷ []) = getD (s .slots) b none
+view T s (b ∷ c ∷ L) = T b c
 
-pub pair : (n p : ℕ) → suc p < 3 ^ n → 0 < suc p - 3 ^ lowestOf 3 (suc p) → Pair n p (lowestOf 3 (suc p)) (lowestOf 3 (suc p - 3 ^ lowestOf 3 (suc p)))
-pair n p l z =
-    let b = lowestOf 3 (suc p) in
-    let r : suc p - 3 ^ b ≡ 3 ^ b * (p / 3 ^ b) = moves-rest 3 two b p (moves 3 two b p refl) in
-    let x : 0 < p / 3 ^ b = part (3 ^ b) (p / 3 ^ b) (rw r at z) in
-    let c : lowestOf 3 (suc p - 3 ^ b) ≡ b + lowestOf 3 (p / 3 ^ b) = ap (lowestOf 3) r ∙ of-times 3 two b (p / 3 ^ b) x in
+pub view-state : (T : ℕ → ℕ → Vector) (s : State) (L : List ℕ) → length L < 2 → view T s L ≡ heldBy s L
+unfolding view heldBy
+view-state T s [] l = refl
+view-state T s (b ∷ []) l = refl
+view-state T s (b ∷ c ∷ L) l = absurd (omega arith)
+
+pub view-table : (T : ℕ → ℕ → Vector) (s : State) (L : List ℕ) → length L ≡ 2 → view T s L ≡ entryBy T L
+unfolding view entryBy
+view-table T s [] l = absurd (omega arith)
+view-table T s (b ∷ []) l = absurd (omega arith)
+view-table T s (b ∷ c ∷ L) l = refl
+
+-- ---- the move: what the place's positions change, each position below n
+pub record Room (n : ℕ) (s : State) : Type 0 where
+  pub long : n ≤ length (s .slots)
+  pub rest : (i : ℕ) → n ≤ i → getD (s .slots) i none ≡ none
+
+module _ (T : ℕ → ℕ → Vector) (n : ℕ) where
+  one : (s : State) (b c : ℕ) → getD (s .slots) c none ≡ move addOf 2 (b ∷ []) (view T s) (c ∷ [])
+  unfolding view move
+  one s b c =
+      by-cases (ℕ-discrete b c)
+      (λ (i : b ≡ c). rw (← i) (sym (move-self addOf 1 b [] (view T s) [])))
+      (λ d. sym (move-other addOf 1 b c [] (view T s) [] d))
+
+  more : (s : State) (b d c : ℕ) (ps : List ℕ) → b < length (s .slots)
+      → getD (set (s .slots) b (addOf (getD (s .slots) b none) (T b d))) c none ≡ move addOf 2 (b ∷ d ∷ ps) (view T s) (c ∷ [])
+  unfolding view move
+  more s b d c ps h =
+      let v = addOf (getD (s .slots) b none) (T b d) in
+      by-cases (ℕ-discrete b c)
+      (λ (i : b ≡ c). rw (← i) (getD-set-same (s .slots) b v none h ∙ sym (move-self addOf 1 b (d ∷ ps) (view T s) [])))
+      (λ o. getD-set-other (s .slots) b c v none (λ e. o (sym e)) ∙ sym (move-other addOf 1 b c (d ∷ ps) (view T s) [] o))
+
+  pub view-move : (ps : List ℕ) (s : State) → Room n s → Rises 0 n ps → (L : List ℕ) → length L ≤ 2 → view T (moveOf T ps s) L ≡ move addOf 2 ps (view T s) L
+  unfolding view moveOf push lift bump move
+  view-move [] s h r L l = refl
+  view-move (b ∷ []) s h r [] l = refl
+  view-move (b ∷ []) s h r (c ∷ []) l = one s b c
+  view-move (b ∷ []) s h r (c ∷ e ∷ L) l = sym (move-leaf addOf 2 (b ∷ []) (view T s) (c ∷ e ∷ L) (omega arith))
+  view-move (b ∷ d ∷ ps) s h r [] l = ap (addOf (s .value)) (getD-set-same (s .slots) b (addOf (getD (s .slots) b none) (T b d)) none (omega (arith, r .1, h .long)))
+  view-move (b ∷ d ∷ ps) s h r (c ∷ []) l = more s b d c ps (omega (arith, r .1, h .long))
+  view-move (b ∷ d ∷ ps) s h r (c ∷ e ∷ L) l = sym (move-leaf addOf 2 (b ∷ d ∷ ps) (view T s) (c ∷ e ∷ L) (omega arith))
+
+  pub room-move : (ps : List ℕ) (s : State) → Rises 0 n ps → Room n s → Room n (moveOf T ps s)
+  unfolding moveOf push lift bump
+  room-move [] s r h = h
+  room-move (b ∷ []) s r h = record { long = h .long; rest = h .rest }
+  room-move (b ∷ c ∷ ps) s r h =
+      record {
+        long = rw (length-set (s .slots) b (addOf (getD (s .slots) b none) (T b c))) (h .long);
+        rest = λ i l. getD-set-other (s .slots) b i _ none (λ e. omega (arith, r .1)) ∙ h .rest i l;
+      }
+
+-- ---- vectors of trits show numbers modulo 3
+pub holds-plus : (m : ℕ) (f g : ℕ → ℕ) (x y : Vector) → Holds m f x → Holds m g y → Holds m (λ e. f e + g e) (addOf x y)
+holds-plus m f g x y h k = holds-add (record { words = refl; trits = meets x y }) h k
+
+pub holds-like : (m : ℕ) (f g : ℕ → ℕ) (x : Vector) → ((e : ℕ) → Cong 3 (f e) (g e)) → Holds m f x → Holds m g x
+holds-like m f g x c h = holds-ext (λ e l. c e .same) h
+
+-- ---- in document 01's words: a state that stands before p holds what an opening at p gives
+module _ (F : ℕ → Poly) (n m p : ℕ) (s : State) where
+  abbrev value : ℕ → ℕ
+  value e = valueOf (F e) n (pointDigit 3 (p - 1))
+
+  abbrev slot : ℕ → ℕ → ℕ
+  slot b e = changeOf 3 (F e) n b (pointDigit 3 (latest 3 b (p - 1) - 1))
+
+  held-slot : (b e : ℕ) → b < n → held 3 (along 3 (valueOf (F e) n)) (b ∷ []) (p - 1) % 3 ≡ slot b e % 3
+  held-slot b e l = sym (mod-mod _ 3) ∙ ap (λ (x : ℕ). x % 3) (slot-change 3 two (F e) n b (p - 1) l)
+
+  pub stands-value : Stands F n m p s → s .value ≡ ofTrits m value
+  unfolding heldBy
+  stands-value h = holds-is (holds-ext (λ e l. ap (λ (x : ℕ). x % 3) (held-value 3 two (along 3 (valueOf (F e) n)) (p - 1))) (h .holds [] (omega arith) (omega arith)))
+
+  pub stands-slot : Stands F n m p s → (b : ℕ) → b < n → getD (s .slots) b none ≡ ofTrits m (slot b)
+  unfolding heldBy
+  stands-slot h b l = holds-is (holds-ext (λ e i. held-slot b e l) (h .holds (b ∷ []) (omega arith) (omega arith, l, omega arith)))
+
+  -- and the other way
+  pub opened-stands : s .place ≡ p → n ≤ length (s .slots) → s .value ≡ ofTrits m value
+      → ((b : ℕ) → b < n → getD (s .slots) b none ≡ ofTrits m (slot b)) → ((i : ℕ) → n ≤ i → getD (s .slots) i none ≡ none) → Stands F n m p s
+  unfolding heldBy
+  opened-stands e long v w rest = record { place = e; room = long; holds = holds; rest = rest }
+    where
+      holds : (L : List ℕ) → length L < 2 → Rises 0 n L → Holds m (λ e. held 3 (along 3 (valueOf (F e) n)) L (p - 1)) (heldBy s L)
+      holds [] l r = holds-ext (λ e i. ap (λ (x : ℕ). x % 3) (sym (held-value 3 two (along 3 (valueOf (F e) n)) (p - 1)))) (is-holds v)
+      holds (b ∷ []) l r = holds-ext (λ e i. sym (held-slot b e (r .1))) (is-holds (w b (r .1)))
+      holds (b ∷ c ∷ L) l r = absurd (omega arith)
+
+-- ---- a table of differences holds the entries
+pub differences-tabled : (F : ℕ → Poly) (n m : ℕ) (T : ℕ → ℕ → Vector) → ((b c : ℕ) → b ≤ c → c < n → Legal m (T b c))
+    → ((e b c : ℕ) → e < m → b ≤ c → c < n → trit (T b c) e ≡ tableOf 3 (F e) .quad b c % 3) → Tabled F n m T
+unfolding entryBy
+differences-tabled F n m T legal each [] l r = absurd (omega arith)
+differences-tabled F n m T legal each (b ∷ []) l r = absurd (omega arith)
+differences-tabled F n m T legal each (b ∷ c ∷ []) l r =
+    let o : b ≤ c = r .2 .0 in
+    let k : c < n = r .2 .1 in
+    let p = pair-place 3 two (omega arith) b c n o k in
     record {
-      first = of-lt 3 two n (suc p) (omega arith) l;
-      order = omega arith;
-      second = of-lt 3 two n (suc p - 3 ^ lowestOf 3 (suc p)) z (omega arith);
+      legal = legal b c o k;
+      each = λ e i. each e b c i o k ∙ sym (quad-is 3 two (F e) n b c (suc (p .0)) [] (p .1) (p .2) .same);
     }
-  where
-    part : (w x : ℕ) → 0 < w * x → 0 < x
-    part w zero h = absurd (omega (arith, mul-zero w))
-    part w (suc x) h = omega arith
-
--- ---- what every step has, whatever its positions: enough to know of the move by none, one and two positions
-pub by-positions : (n : ℕ) (T : ℕ → ℕ → Vector) (P : State → Type 0) (p : ℕ) (s : State) → p < 3 ^ n
-    → (p ≡ 0 → P (moveOf T [] s))
-    → ((q : ℕ) → p ≡ suc q → suc q - 3 ^ lowestOf 3 (suc q) ≡ 0 → P (moveOf T (lowestOf 3 (suc q) ∷ []) s))
-    → ((q : ℕ) (ps : List ℕ) → p ≡ suc q → 0 < suc q - 3 ^ lowestOf 3 (suc q) → P (moveOf T (lowestOf 3 (suc q) ∷ lowestOf 3 (suc q - 3 ^ lowestOf 3 (suc q)) ∷ ps) s))
-    → P (moveOf T (positions 3 p) s)
-by-positions n T P zero s l none one more = rw (positions-none 3 two) (none refl)
-by-positions n T P (suc p) s l none one more =
-    let h : 0 < suc p = omega arith in
-    by-cases (ℕ-discrete (suc p - 3 ^ lowestOf 3 (suc p)) 0)
-    (λ z. rw (positions-one 3 two (suc p) h z) (one p refl z))
-    (λ d. let y : 0 < suc p - 3 ^ lowestOf 3 (suc p) = omega arith in rw (positions-two 3 two (suc p) h y) (more p _ refl y))
-
--- ---- legality
-module _ (m n : ℕ) (T : ℕ → ℕ → Vector) (table : (b c : ℕ) → b ≤ c → c < n → Legal m (T b c)) where
-  push-good : (b : ℕ) (s : State) → Good m s → Good m (push b s)
-  unfolding push
-  push-good b s g = record { value = meets _ _ m (g .value) (g .slots b) .legal; slots = g .slots }
-
-  lift-good : (b : ℕ) (t : Vector) (s : State) → Legal m t → Good m s → Good m (lift b t s)
-  unfolding lift
-  lift-good b t s i g =
-      let v = addOf (getD (s .slots) b none) t in
-      let l : Legal m v = meets _ _ m (g .slots b) i .legal in
-      record {
-        value = g .value;
-        slots = λ i.
-            by-cases (ℕ-discrete i b)
-            (λ p. by-cases (decLt b (length (s .slots)))
-            (λ h. rw (p, getD-set-same (s .slots) b v none h) l)
-            (λ h. rw (set-out (s .slots) b v (omega arith)) (g .slots i)))
-            (λ n. rw (getD-set-other (s .slots) b i v none n) (g .slots i));
-      }
-
-  move-good : (p : ℕ) (s : State) → p < 3 ^ n → Good m s → Good m (moveOf T (positions 3 p) s)
-  unfolding moveOf bump
-  move-good p s l g =
-      by-positions n T (Good m) p s l (λ e. g) (λ q e z. push-good (lowestOf 3 (suc q)) s g)
-      (λ q ps e z. let i = pair n q (rw e at l) z in push-good _ _ (lift-good _ _ s (table _ _ (i .order) (i .second)) g))
-
-  pub step-good : (s : State) → s .place < 3 ^ n → Good m s → Good m (stepOf 3 (walkOf n T) s)
-  unfolding stepOf noteBy
-  step-good s l g = let h = move-good (s .place) s l g in record { value = h .value; slots = h .slots }
-
--- ---- slots from n on stay
-same-slots : (n b : ℕ) (T : Vector) (s : State) → b < n → (i : ℕ) → n ≤ i → getD ((bump b T s) .slots) i none ≡ getD (s .slots) i none
-unfolding bump push lift
-same-slots n b T s l i h = getD-set-other (s .slots) b i _ none (λ e. omega arith)
-
-pub step-rest : (n : ℕ) (T : ℕ → ℕ → Vector) (s : State) → s .place < 3 ^ n → (i : ℕ) → n ≤ i → getD ((stepOf 3 (walkOf n T) s) .slots) i none ≡ getD (s .slots) i none
-unfolding stepOf noteBy moveOf push
-step-rest n T s l i h =
-    by-positions n T (λ u. getD (u .slots) i none ≡ getD (s .slots) i none) (s .place) s l (λ e. refl) (λ q e z. refl)
-    (λ q ps e z. same-slots n _ _ s (pair n q (rw e at l) z .first) i h)
-
--- ---- one equation
-module _ (m n e : ℕ) (f : Poly) (T : ℕ → ℕ → Vector) (table : (b c : ℕ) → b ≤ c → c < n → Legal m (T b c))
-    (less : e < m) (entries : (b c : ℕ) → b ≤ c → c < n → trit (T b c) e ≡ tableOf 3 f .quad b c) where
-  exact : {a b : ℕ} → a ≡ b % 3 → Cong 3 a b
-  exact {a} {b} h = cof h ⨾ cdrop b
-
-  -- a state after place p
-  record At (p : ℕ) (s : State) : Type 0 where
-    place : s .place ≡ suc p
-    room : n ≤ length (s .slots)
-    value : trit (s .value) e ≡ eval f n (pointDigit 3 p) % 3
-    slots : (b : ℕ) → b < n → trit (getD (s .slots) b none) e ≡ slotAt 3 two f n b p % 3
-
-  last : (p : ℕ) → suc p - 1 ≡ p
-  last p = omega arith
-
-  at-sees : (p : ℕ) (s : State) → At p s → Sees f n e (suc p) s
-  unfolding slotAt
-  at-sees p s a =
-      record {
-        place = a .place;
-        room = a .room;
-        value = a .value ∙ ap (λ (x : ℕ). eval f n (pointDigit 3 x) % 3) (sym (last p));
-        slots = λ b h. a .slots b h ∙ ap (λ (x : ℕ). diff f n b (pointDigit 3 (latest 3 b x - 1)) % 3) (sym (last p));
-      }
-
-  sees-at : (p : ℕ) (s : State) → Sees f n e (suc p) s → At p s
-  unfolding slotAt
-  sees-at p s m =
-      record {
-        place = m .place;
-        room = m .room;
-        value = m .value ∙ ap (λ (x : ℕ). eval f n (pointDigit 3 x) % 3) (last p);
-        slots = λ b h. m .slots b h ∙ ap (λ (x : ℕ). diff f n b (pointDigit 3 (latest 3 b x - 1)) % 3) (last p);
-      }
-
-  at-one : (p : ℕ) (s : State) → Good m s → suc p < 3 ^ n → suc p - 3 ^ lowestOf 3 (suc p) ≡ 0 → At p s → At (suc p) (noteOf n (moveOf T (lowestOf 3 (suc p) ∷ []) s))
-  unfolding noteBy moveOf push
-  at-one p s g l z a =
-      let b = lowestOf 3 (suc p) in
-      let h : lowestOf 3 (suc p) < n = of-lt 3 two n (suc p) (omega arith) l in
-      record {
-        place = add-one (s .place) ∙ ap suc (a .place);
-        room = a .room;
-        value = meets _ _ m (g .value) (g .slots b) .each e less
-            ∙ (cadd (exact (a .value)) (exact (a .slots b h) ⨾ cof (sym (slot-one 3 two f n b p refl z))) ⨾ csym (value-step 3 two f n p l)) .same;
-        slots = λ k i. a .slots k i ∙ ap (λ (x : ℕ). x % 3) (by-cases (ℕ-discrete k b)
-            (λ j. sym (slot-one 3 two f n k p (sym j) (ap (λ (x : ℕ). suc p - 3 ^ x) j ∙ z)))
-            (λ d. sym (slot-other 3 two f n k p d)));
-      }
-
-  at-two : (p : ℕ) (ps : List ℕ) (s : State) → Good m s → suc p < 3 ^ n → 0 < suc p - 3 ^ lowestOf 3 (suc p) → At p s
-      → At (suc p) (noteOf n (moveOf T (lowestOf 3 (suc p) ∷ lowestOf 3 (suc p - 3 ^ lowestOf 3 (suc p)) ∷ ps) s))
-  unfolding noteBy moveOf bump push lift
-  at-two p ps s g l z a =
-      let b = lowestOf 3 (suc p) in
-      let c = lowestOf 3 (suc p - 3 ^ lowestOf 3 (suc p)) in
-      let i = pair n p l z in
-      let v = addOf (getD (s .slots) b none) (T b c) in
-      let u = meets _ _ m (g .slots b) (table b c (i .order) (i .second)) in
-      let w : Cong 3 (trit (getD (s .slots) b none) e + trit (T b c) e) (slotAt 3 two f n b (suc p)) =
-      cadd (exact (a .slots b (i .first))) (cof (entries b c (i .order) (i .second))) ⨾ csym (slot-two 3 two f n b p l refl z) in
-      let r : getD (set (s .slots) b v) b none ≡ v = getD-set-same (s .slots) b v none (omega (arith, a .room, i .first)) in
-      record {
-        place = add-one (s .place) ∙ ap suc (a .place);
-        room = rw (length-set (s .slots) b v) (a .room);
-        value = ap (λ (x : Vector). trit (addOf (s .value) x) e) r ∙ meets _ _ m (g .value) (u .legal) .each e less
-            ∙ (cadd (exact (a .value)) (exact (u .each e less ∙ w .same)) ⨾ csym (value-step 3 two f n p l)) .same;
-        slots = λ j y. by-cases (ℕ-discrete j b)
-            (λ t. ap (λ (x : ℕ). trit (getD (set (s .slots) b v) x none) e) t ∙ ap (λ (x : Vector). trit x e) r ∙ u .each e less ∙ w .same ∙ ap (λ (x : ℕ). slotAt 3 two f n x (suc p) % 3) (sym t))
-            (λ d. ap (λ (x : Vector). trit x e) (getD-set-other (s .slots) b j v none d) ∙ a .slots j y ∙ ap (λ (x : ℕ). x % 3) (sym (slot-other 3 two f n j p d)));
-      }
-
-  sees-none : (s : State) → Sees f n e 0 s → Sees f n e 1 (noteOf n (moveOf T [] s))
-  unfolding noteBy moveOf
-  sees-none s v = record { place = add-one (s .place) ∙ ap suc (v .place); room = v .room; value = v .value; slots = v .slots }
-
-  -- each place keeps the meaning
-  pub step-sees : (p : ℕ) (s : State) → Good m s → p < 3 ^ n → Sees f n e p s → Sees f n e (suc p) (stepOf 3 (walkOf n T) s)
-  unfolding stepOf
-  step-sees p s g l v =
-      rw (ap (positions 3) (v .place)) (by-positions n T (λ u. Sees f n e (suc p) (noteOf n u)) p s l
-      (λ z. rw (ap suc z) (sees-none s (rw z at v)))
-      (λ q i z. rw i (at-sees (suc q) _ (at-one q s g (rw i at l) z (sees-at q s (rw i at v)))))
-      (λ q ps i z. rw i (at-sees (suc q) _ (at-two q ps s g (rw i at l) z (sees-at q s (rw i at v))))))
-
--- ---- all equations of a system
-module _ (F : ℕ → Poly) (n m : ℕ) (T : ℕ → ℕ → Vector) (table : Tabled F n m T) where
-  pub step-stands : (p : ℕ) (s : State) → p < 3 ^ n → Stands F n m p s → Stands F n m (suc p) (stepOf 3 (walkOf n T) s)
-  step-stands p s l h =
-      record {
-        good = step-good m n T (table .legal) s (rw (h .place) l) (h .good);
-        sees = λ e i. step-sees m n e (F e) T (table .legal) i (λ b c. table .entry e b c i) p s (h .good) l (h .sees e i);
-        place = omega (arith, step-near (pointOf 3 n) T s .place, h .place);
-        rest = λ i j. step-rest n T s (rw (h .place) l) i j ∙ h .rest i j;
-      }
-
--- ---- a state that stands at p holds what an opening at p gives
-module _ (F : ℕ → Poly) (n m p : ℕ) (s : State) (h : Stands F n m p s) where
-  pub stands-value : s .value ≡ ofTrits m (λ e. valueOf (F e) n (pointDigit 3 (p - 1)))
-  stands-value =
-      is-of m _ (s .value) (h .good .value)
-      (λ e l. h .sees e l .value ∙ ap (λ (x : ℕ). x % 3) (eval-value (F e) n (pointDigit 3 (p - 1))))
-
-  pub stands-slot : (b : ℕ) → b < n → getD (s .slots) b none ≡ ofTrits m (λ e. changeOf 3 (F e) n b (pointDigit 3 (latest 3 b (p - 1) - 1)))
-  stands-slot b j =
-      let x = pointDigit 3 (latest 3 b (p - 1) - 1) in
-      is-of m (λ e. diff (F e) n b x) (getD (s .slots) b none) (h .good .slots b) (λ e l. h .sees e l .slots b j)
-      ∙ of-ext m (λ e. diff (F e) n b x) (λ e. changeOf 3 (F e) n b x)
-      (λ e l. sym (mod-mod (diff (F e) n b x) 3) ∙ ap (λ (y : ℕ). y % 3) (diff-change 3 two (F e) n b x j))
+differences-tabled F n m T legal each (b ∷ c ∷ d ∷ L) l r = absurd (omega arith)

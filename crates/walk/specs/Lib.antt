@@ -1,4 +1,2 @@
-pub mod Step
-pub mod Parts
 pub mod Run
 pub mod Meaning

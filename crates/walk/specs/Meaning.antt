@@ -1,59 +1,45 @@
--- What a state says of the system behind the table, and which trail of calls the search follows.
+-- What a state says of the system behind the table, and which trail of calls the search follows: held/specs/Stands in base 3 and degree 2.
 use mathlib.Core.Path.{_≡_}
-use mathlib.Core.Bool.{Bool, true, _&&_}
-use mathlib.Core.List.{List}
-use Prim.Native.Nat.{ℕ, zero, suc, _+_, _-_, _%_, _<_, _≤_, min}
-use lib.Dec.{eqb}
+use mathlib.Core.List.{List, [], _∷_}
+use Prim.Native.Nat.{ℕ, _+_, _≤_}
 use lib.ListN.{length, getD}
 use Rattle.trits.specs.declared.Vector.{Vector}
-use Rattle.trits.specs.Trit.{trit, Legal, none}
-use Rattle.gray.specs.Positions.{positions, latest}
-use Rattle.gray.specs.Numbers.{pointDigit, pointOf}
-use Rattle.polynomials.specs.Poly.{Poly, valueOf, eval, diff, tableOf}
+use Rattle.trits.specs.Trit.{Holds, none}
+use Rattle.polynomials.specs.Poly.{Poly, valueOf}
 use Rattle.walks.specs.Calls.{Trail, reportOf, stopAt, listAfter}
-use Rattle.walk.specs.Step.{State}
+use Rattle.held.specs.Stands as any
+use Rattle.moves.specs.Step.{State}
 
--- every vector of a state is legal
-pub record Good (m : ℕ) (s : State) : Type 0 where
-  pub value : Legal m (s .value)
-  pub slots : (i : ℕ) → Legal m (getD (s .slots) i none)
+-- a system of equations of n unknowns, as functions of points
+abbrev pub valuesOf : (ℕ → Poly) → ℕ → ℕ → (ℕ → ℕ) → ℕ
+valuesOf F n e = valueOf (F e) n
 
--- equation e of the system is f, and the state stands before place p: the value is that of f at the point before,
--- and each slot is the first difference of f before the latest move of its unknown
-pub record Sees (f : Poly) (n e p : ℕ) (s : State) : Type 0 where
-  pub place : s .place ≡ p
-  pub room : n ≤ length (s .slots)
-  pub value : trit (s .value) e ≡ eval f n (pointDigit 3 (p - 1)) % 3
-  pub slots : (b : ℕ) → b < n → trit (getD (s .slots) b none) e ≡ diff f n b (pointDigit 3 (latest 3 b (p - 1) - 1)) % 3
+-- what a state holds for a list of positions: the value for none, slot b for b
+unfoldable pub heldBy : State → List ℕ → Vector
+heldBy s [] = s .value
+heldBy s (b ∷ L) = getD (s .slots) b none
 
--- the state stands before place p of the walk of the m equations F: every vector is legal, every equation is seen,
+-- what a table of products holds for two positions
+unfoldable pub entryBy : (ℕ → ℕ → Vector) → List ℕ → Vector
+entryBy T [] = none
+entryBy T (b ∷ []) = none
+entryBy T (b ∷ c ∷ L) = T b c
+
+-- the state stands before place p of the walk of the m equations F: value and slots are the legal vectors of what is held,
 -- and slots from n on are zero
 pub record Stands (F : ℕ → Poly) (n m p : ℕ) (s : State) : Type 0 where
   pub place : s .place ≡ p
-  pub good : Good m s
-  pub sees : (e : ℕ) → e < m → Sees (F e) n e p s
+  pub room : n ≤ length (s .slots)
+  pub holds : any.Stands (Holds m) 3 2 n (valuesOf F n) p (heldBy s)
   pub rest : (i : ℕ) → n ≤ i → getD (s .slots) i none ≡ none
 
--- T holds, legally, the differences of the products of the system of the m equations F
-pub record Tabled (F : ℕ → Poly) (n m : ℕ) (T : ℕ → ℕ → Vector) : Type 0 where
-  pub legal : (b c : ℕ) → b ≤ c → c < n → Legal m (T b c)
-  pub entry : (e b c : ℕ) → e < m → b ≤ c → c < n → trit (T b c) e ≡ tableOf 3 (F e) .quad b c
+-- T holds the entries of two positions of the m equations F, as legal vectors
+abbrev pub Tabled : (ℕ → Poly) → ℕ → ℕ → (ℕ → ℕ → Vector) → Type 0
+Tabled F n m T = any.Tabled (Holds m) 3 2 n (valuesOf F n) (entryBy T)
 
--- whether each of m values is 0 modulo 3
-unfoldable pub zeros : ℕ → (ℕ → ℕ) → Bool
-zeros zero f = true
-zeros (suc m) f = zeros m f && eqb (f m % 3) 0
-
--- the walk of a system as calls see it: a place is a zero where every equation is 0 at its point, the point is what is listed,
--- and a place costs an addition for its value and one more where it has a second position
+-- the walk of the m equations F as calls see it, up to place e
 abbrev pub trailOf : (ℕ → Poly) → ℕ → ℕ → ℕ → Trail
-trailOf F n m e =
-    record {
-      end = e;
-      zeroAt = λ p. zeros m (λ k. valueOf (F k) n (pointDigit 3 p));
-      entry = pointOf 3 n;
-      cost = λ p. min 2 (length (positions 3 p));
-    }
+trailOf F n m e = any.trailOf 3 2 (valuesOf F n) n m e
 
 -- r is what a call on a trail leaves, from place p with the budget b and the list l: the report's counts and stop, and the list after
 pub record Answers (T : Trail) (b p : ℕ) (l : List ℕ) (r : State) : Type 0 where

@@ -1,15 +1,14 @@
 -- The search: the walk up to its end, a full list or a spent budget.
-use mathlib.Core.Path.{_≡_}
 use mathlib.Core.Bool.{Bool, _||_}
 use mathlib.Core.List.{List}
-use Prim.Native.Nat.{ℕ, _*_, _^_, _≤_, _<_}
+use Prim.Native.Nat.{ℕ, _*_, _≤_}
 use lib.Dec.{eqb}
-use lib.ListN.{length}
-use Rattle.trits.specs.declared.Vector.{Vector}
-use Rattle.tables.specs.Monomials.{countOf, indexOf}
-use Rattle.tables.specs.Words.{entry}
+use lib.ListN.{length, getD}
+use Rattle.trits.specs.Trit.{none}
 use Rattle.walks.specs.Walk.{runOf}
-use Rattle.walk.specs.Step.{State, walkOf}
+use Rattle.blocks.specs.declared.parts.Part.{Part}
+use Rattle.moves.specs.Step.{State, walkOf}
+use Rattle.moves.specs.Moves.{product}
 use Rattle.walk.specs.declared.Walker.{Walker}
 use Rattle.walk.specs.declared.Ran.{Ran}
 
@@ -29,10 +28,6 @@ stateOf r l =
 abbrev pub fresh : Walker → List ℕ → State
 fresh w l = record { place = w .place; value = w .value; slots = w .slots; additions = 0; found = 0; list = l }
 
--- a table's entry of the product of unknowns b and c
-abbrev pub product : List ℕ → ℕ → ℕ → ℕ → Vector
-product t n b c = entry t (indexOf n b c)
-
 -- at the end of the walk, or with the list used up
 abbrev pub haltOf : ℕ → State → Bool
 haltOf e s = eqb (s .place) e || eqb (s .found) (length (s .list))
@@ -41,15 +36,21 @@ haltOf e s = eqb (s .place) e || eqb (s .found) (length (s .list))
 abbrev pub searchOf : List ℕ → ℕ → ℕ → ℕ → State → State
 searchOf t n e = runOf 3 (walkOf n (product t n)) (haltOf e)
 
--- the sizes of a table and of the walk's end
-pub record Sized (t : List ℕ) (n e : ℕ) : Type 0 where
-  pub some : 0 < n
-  pub small : n ≤ 20
-  pub table : length t ≡ 2 * countOf n
-  pub end : e ≤ 3 ^ n
-
 -- the numbers of a walker with its counts are within their ends
 pub record Sane (e : ℕ) (r : Ran) (l : List ℕ) : Type 0 where
   pub place : r .walker .place ≤ e
   pub found : r .found ≤ length l
   pub additions : r .additions ≤ 2 * r .walker .place
+
+-- the parts of a walker with its counts
+abbrev pub partOf : Ran → Part
+partOf r =
+    record {
+      value = r .walker .value;
+      s0 = getD (r .walker .slots) 0 none;
+      s1 = getD (r .walker .slots) 1 none;
+      s2 = getD (r .walker .slots) 2 none;
+      additions = r .additions;
+      found = r .found;
+      place = r .walker .place;
+    }

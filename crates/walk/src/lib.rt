@@ -1,13 +1,12 @@
 // The walk over all points in Gray order: the fast core of the search.
-// Contracts cite specs/Step (what one place does), specs/Run (the search) and specs/Parts (a block of 27 places).
+// Contracts cite specs/Run (the search); what one place does is moves/specs/Step.
 use trits::Vector;
 ghost use mathlib.Core.Path.{_≡_};
 ghost use Prim.Native.Nat.{_-_, _%_, _≤_, min};
-ghost use Rattle.walk.specs.Run.{fresh, stateOf, searchOf, Sized};
+ghost use Rattle.moves.specs.Moves.{Sized};
+ghost use Rattle.walk.specs.Run.{fresh, stateOf, searchOf};
 
-mod blocks;
-mod moves;
-mod parts;
+mod leaps;
 mod steps;
 
 // Where a walk stands: the next place to examine, the value at the place before it, and the slot of each unknown.
@@ -49,7 +48,7 @@ pub fn run(table: &[u64], n: usize, end: u64, w: Walker, budget: u64, list: &mut
     let first = lead(start, budget);
     let a = steps::steps(table, n, end, r, first, list);
     let at = a.walker.place;
-    let b = blocks::blocks(table, n, end, a, budget - (at - start), list);
+    let b = leaps::leaps(table, n, end, a, budget - (at - start), list);
     let past = b.walker.place;
     steps::steps(table, n, end, b, budget - (past - start), list)
 }

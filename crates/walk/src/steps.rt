@@ -1,13 +1,14 @@
 // Places one by one.
 use crate::Ran;
 use crate::Walker;
-use crate::moves::head;
-use crate::moves::mark;
+use moves::head;
+use moves::mark;
 ghost use mathlib.Core.Path.{_≡_};
 ghost use mathlib.Core.Bool.{not, _&&_};
 ghost use Prim.Native.Nat.{_≤_, _+_};
 ghost use lib.Dec.{eqb};
-ghost use Rattle.walk.specs.Run.{stateOf, searchOf, Sized, Sane};
+ghost use Rattle.moves.specs.Moves.{Sized};
+ghost use Rattle.walk.specs.Run.{stateOf, searchOf, Sane};
 
 // Whether there is a place left in the budget and before the end, and an entry free.
 fn going(left: u64, end: u64, place: u64, len: usize, found: usize) -> bool
@@ -39,7 +40,7 @@ pub(crate) fn steps(table: &[u64], n: usize, end: u64, r: Ran, budget: u64, list
     let mut found = r.found;
     let mut left = budget;
     while going(left, end, place, len, found) {
-        let f = gray::split(place);
+        let f = positions::split(place);
         let b = f.position;
         let slot = slots[b];
         let h = head(table, n, place, b, f.rest, slot, value, additions);

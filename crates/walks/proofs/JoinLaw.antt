@@ -1,122 +1,19 @@
--- Runs of calls: places that follow each other have zeros that follow each other and additions that add up, however the run is cut.
+-- A call cut in two, and two ranges of places one after the other: zeros follow each other and additions add up.
 use mathlib.Core.Path.{_≡_, refl, sym, ap, ap₂, subst, _∙_}
-use mathlib.Core.Logic.{inl, inr, ⊎-elim, by-cases, _↔_}
-use mathlib.Core.List.{List, [], _∷_, _++_}
+use mathlib.Core.Logic.{inl, inr, ⊎-elim, by-cases}
+use mathlib.Core.List.{_++_}
 use Prim.Native.Nat.{ℕ, zero, suc, _+_, _-_, _≤_, _<_}
 use native.Mathlib.Nat.{add-zero}
 use native.Mathlib.Decide.{decLt}
 use native.Mathlib.Omega.{arith}
-use lib.ListN.{length, take, drop, length-append}
-use Rattle.walks.specs.declared.Stop.the-variants.{Ended}
-use Rattle.walks.specs.Calls.{Trail, listed, zerosIn, costIn, pointsIn, FirstStop, reportOf, listAfter, Call, Fair, totalsOf, AllFair, answerTo, OneCall, EachCall, Demand3, until}
-use Rattle.walks.proofs.CallLaw.{zeros-add, cost-add, first-stop, points-only, points-le, points-one, points-end, stop-room, report-place, report-ended, after-front, after-drop, after-length}
+use lib.ListN.{length, length-append}
+use Rattle.walks.specs.Calls.{Trail, listed, zerosIn, costIn, pointsIn, FirstStop, until}
+use Rattle.walks.proofs.CallLaw.{zeros-add, cost-add, first-stop, points-only, stop-room}
 
 sum-over : (p j k : ℕ) → p + j + k ≡ p + (j + k)
 sum-over p j k = omega arith
 
 module _ (T : Trail) where
-  -- ---- what a run of calls gives together
-  pub totals-place : (p : ℕ) (cs : List Call) → totalsOf T p cs .place ≡ p + totalsOf T p cs .points
-  unfolding totalsOf
-  totals-place p [] = sym (add-zero p)
-  totals-place p (c ∷ cs) =
-      let k = pointsIn T (c .budget) (c .room) p in
-      totals-place (p + k) cs ∙ sum-over p k (totalsOf T (p + k) cs .points)
-
-  pub totals-list : (p : ℕ) (cs : List Call) → totalsOf T p cs .list ≡ zerosIn T p (totalsOf T p cs .points)
-  unfolding totalsOf zerosIn
-  totals-list p [] = refl
-  totals-list p (c ∷ cs) =
-      let k = pointsIn T (c .budget) (c .room) p in
-      ap (λ (l : List ℕ). zerosIn T p k ++ l) (totals-list (p + k) cs) ∙ sym (zeros-add T p k (totalsOf T (p + k) cs .points))
-
-  pub totals-additions : (p : ℕ) (cs : List Call) → totalsOf T p cs .additions ≡ costIn T p (totalsOf T p cs .points)
-  unfolding totalsOf costIn
-  totals-additions p [] = refl
-  totals-additions p (c ∷ cs) =
-      let k = pointsIn T (c .budget) (c .room) p in
-      ap (λ (n : ℕ). costIn T p k + n) (totals-additions (p + k) cs) ∙ sym (cost-add T p k (totalsOf T (p + k) cs .points))
-
-  pub totals-within : (p : ℕ) (cs : List Call) → p ≤ T .end → totalsOf T p cs .place ≤ T .end
-  unfolding totalsOf
-  totals-within p [] h = h
-  totals-within p (c ∷ cs) h = totals-within (p + pointsIn T (c .budget) (c .room) p) cs (points-end T (c .budget) (c .room) p h)
-
-  -- a run of as many calls as there are places left has ended
-  pub ends : (p : ℕ) (cs : List Call) → p ≤ T .end → AllFair cs → T .end - p ≤ length cs → totalsOf T p cs .place ≡ T .end
-  unfolding totalsOf
-  ends p [] h f l = omega arith
-  ends p (c ∷ cs) h f l =
-      let k = pointsIn T (c .budget) (c .room) p in
-      ends (p + k) cs (points-end T (c .budget) (c .room) p h) (f .1)
-      (by-cases (decLt p (T .end))
-      (λ m. omega (arith, points-one T (c .budget) (c .room) p m (f .0 .budget) (f .0 .room)))
-      (λ n. omega arith))
-
-  -- ---- the promise of a run
-  pub one-call : (c : Call) (p : ℕ) → Fair c → p ≤ T .end → OneCall T c p
-  unfolding reportOf
-  one-call c p f h =
-      record {
-        place = report-place T (c .budget) (c .room) p;
-        budget = points-le T (c .budget) (c .room) p;
-        one = λ l. points-one T (c .budget) (c .room) p l (f .budget) (f .room);
-        within = points-end T (c .budget) (c .room) p h;
-        additions = refl;
-        found = refl;
-        zeros = λ l e.
-            subst (λ (r : ℕ). take (reportOf T (c .budget) r p .found) (listAfter T (c .budget) p l) ≡ zerosIn T p (reportOf T (c .budget) r p .points)) e
-            (after-front T (c .budget) p l);
-        rest = λ l e.
-            subst (λ (r : ℕ). drop (reportOf T (c .budget) r p .found) (listAfter T (c .budget) p l) ≡ drop (reportOf T (c .budget) r p .found) l) e
-            (after-drop T (c .budget) p l);
-        same = λ l e. after-length T (c .budget) p l;
-      }
-
-  pub each-call : (p : ℕ) (cs : List Call) → AllFair cs → p ≤ T .end → EachCall T p cs
-  unfolding reportOf
-  each-call p [] f h = tt
-  each-call p (c ∷ cs) f h =
-      (one-call c p (f .0) h, each-call (p + pointsIn T (c .budget) (c .room) p) cs (f .1) (points-end T (c .budget) (c .room) p h))
-
-  -- a run that has ended, from any place
-  pub whole : (p : ℕ) (cs : List Call) → totalsOf T p cs .place ≡ T .end
-      → (totalsOf T p cs .points ≡ T .end - p) × (totalsOf T p cs .additions ≡ costIn T p (T .end - p)) × (totalsOf T p cs .list ≡ zerosIn T p (T .end - p))
-  whole p cs e =
-      let n : totalsOf T p cs .points ≡ T .end - p = omega (arith, totals-place p cs) in
-      (n, totals-additions p cs ∙ ap (costIn T p) n, totals-list p cs ∙ ap (zerosIn T p) n)
-
-  pub demand3 : (cs : List Call) → AllFair cs → totalsOf T 0 cs .place ≡ T .end → Demand3 T cs
-  demand3 cs f e =
-      let w = whole 0 cs e in
-      let n : T .end - 0 ≡ T .end = omega arith in
-      record {
-        each = each-call 0 cs f (omega arith);
-        list = w .2 ∙ ap (zerosIn T 0) n;
-        points = w .0 ∙ n;
-        additions = w .1 ∙ ap (costIn T 0) n;
-      }
-
-  -- a run of as many calls as there are places is such a run
-  pub demand3-enough : (cs : List Call) → AllFair cs → T .end ≤ length cs → Demand3 T cs
-  demand3-enough cs f l = demand3 cs f (ends 0 cs (omega arith) f (omega arith))
-
-  -- ---- the calls before, and the last one
-  pub totals-after : (p : ℕ) (cs ds : List Call) → totalsOf T p (cs ++ ds) .place ≡ totalsOf T (totalsOf T p cs .place) ds .place
-  unfolding totalsOf
-  totals-after p [] ds = refl
-  totals-after p (c ∷ cs) ds = totals-after (p + pointsIn T (c .budget) (c .room) p) cs ds
-
-  -- a run has come to the end exactly if its last call answers that it ended
-  pub totals-ended : (p : ℕ) (cs : List Call) (c : Call)
-      → (answerTo T c (totalsOf T p cs .place) .stop ≡ Ended) ↔ (totalsOf T p (cs ++ c ∷ []) .place ≡ T .end)
-  unfolding totalsOf
-  totals-ended p cs c =
-      let x = totalsOf T p cs .place in
-      let r = report-ended T (c .budget) (c .room) x in
-      let a = totals-after p cs (c ∷ []) in
-      (λ e. a ∙ r .0 e, λ e. r .1 (sym a ∙ e))
-
   -- ---- a call cut in two
   joined : (p k x : ℕ) → length (zerosIn T p (k + x)) ≡ length (zerosIn T p k) + length (zerosIn T (p + k) x)
   joined p k x = ap length (zeros-add T p k x) ∙ length-append (zerosIn T p k) (zerosIn T (p + k) x)
@@ -208,19 +105,3 @@ module _ (T : Trail) where
   unfolding costIn
   cost-until e p zero = refl
   cost-until e p (suc k) = ap (λ (n : ℕ). T .cost p + n) (cost-until e (suc p) k)
-
-module _ (T : Trail) where
-  -- a run over 0 to m - 1 and one over m to the end, both ended: together all that one whole walk gives
-  pub two-ranges : (m : ℕ) (cs ds : List Call) → m ≤ T .end → totalsOf (until T m) 0 cs .place ≡ m → totalsOf T m ds .place ≡ T .end
-      → (totalsOf (until T m) 0 cs .points + totalsOf T m ds .points ≡ T .end)
-      × (totalsOf (until T m) 0 cs .additions + totalsOf T m ds .additions ≡ costIn T 0 (T .end))
-      × (totalsOf (until T m) 0 cs .list ++ totalsOf T m ds .list ≡ zerosIn T 0 (T .end))
-  two-ranges m cs ds h e f =
-      let w = whole (until T m) 0 cs e in
-      let v = whole T m ds f in
-      let n : T .end - 0 ≡ T .end = omega arith in
-      let l : totalsOf (until T m) 0 cs .list ≡ zerosIn T 0 (m - 0) = w .2 ∙ zeros-until T m 0 (m - 0) in (
-        omega (arith, w .0, v .0),
-        ap₂ (λ (x y : ℕ). x + y) (w .1 ∙ cost-until T m 0 (m - 0)) (v .1) ∙ sym (cost-split T 0 m (T .end) (omega arith) h) ∙ ap (costIn T 0) n,
-        ap₂ (λ (x y : List ℕ). x ++ y) l (v .2) ∙ sym (zeros-split T 0 m (T .end) (omega arith) h) ∙ ap (zerosIn T 0) n,
-      )

@@ -7,3 +7,6 @@ pub mod ZeroLaw
 pub mod CostLaw
 pub mod HaltLaw
 pub mod FollowLaw
+pub mod RunsLaw
+pub mod SearchLaw
+pub mod WalkedLaw

@@ -7,7 +7,7 @@ use Prim.Native.Nat.{ℕ, zero, suc, _+_, _≤_, _<_}
 use native.Mathlib.Decide.{ℕ-discrete, decLt}
 use native.Mathlib.Omega.{arith}
 use lib.ListN.{length, getD, length-map}
-use Rattle.walks.specs.Calls.{Trail, listed, zerosIn, Call, totalsOf, Demand3}
+use Rattle.walks.specs.Calls.{Trail, listed, zerosIn}
 use Rattle.walks.specs.Zeros.{ZeroIn, placesIn, Holds, Rising, Once, Distinct}
 
 -- an entry of a list that is read off another
@@ -128,14 +128,3 @@ module _ (T : Trail) where
 
   pub all-once : Distinct T → Once (zerosIn T 0 (T .end))
   all-once d = zeros-once d 0 (T .end) (omega arith)
-
-  -- and of what the calls of a run listed together
-  module _ (cs : List Call) (w : Demand3 T cs) where
-    pub run-holds : (x : ℕ) → Holds x (totalsOf T 0 cs .list) ↔ ((a : ℕ) × (a < T .end) × (T .zeroAt a ≡ true) × (T .entry a ≡ x))
-    run-holds x = rw (w .list) (all-hold x)
-
-    pub run-once : Distinct T → Once (totalsOf T 0 cs .list)
-    run-once d = rw (w .list) (all-once d)
-
-    pub run-order : totalsOf T 0 cs .list ≡ map (T .entry) (placesIn T 0 (T .end))
-    run-order = w .list ∙ zeros-map 0 (T .end)

@@ -1,12 +1,11 @@
--- Calls on a walk as a planner sees them: what one call gives, and what a run of calls gives together.
+-- Calls on a walk as a planner sees them: what one call gives. Runs of calls are in specs/Runs.
 use mathlib.Core.Path.{_≡_}
 use mathlib.Core.Bool.{Bool, true, false, _||_}
 use mathlib.Core.Logic.{_⊎_}
 use mathlib.Core.List.{List, [], _∷_, _++_}
 use Prim.Native.Nat.{ℕ, zero, suc, _+_, _-_, _≤_, _<_}
 use lib.Dec.{eqb}
-use lib.ListN.{length, take, drop}
-use Rattle.gray.specs.declared.Place.{Place}
+use lib.ListN.{length, drop}
 use Rattle.walks.specs.declared.Stop.{Stop}
 use Rattle.walks.specs.declared.Stop.the-variants.{Ended, Full, Spent}
 use Rattle.walks.specs.declared.Report.{Report}
@@ -83,65 +82,6 @@ reportOf T b c p = reportIn T c p (pointsIn T b c p)
 -- the list l after a call: the zeros from the front, the rest as it was
 unfoldable pub listAfter : Trail → ℕ → ℕ → List ℕ → List ℕ
 listAfter T b p l = zerosIn T p (pointsIn T b (length l) p) ++ drop (length (zerosIn T p (pointsIn T b (length l) p))) l
-
--- ---- a run of calls, each begun where the one before stopped
-pub record Call : Type 0 where
-  pub budget : ℕ
-  pub room : ℕ
-
--- a call that is not refused
-pub record Fair (c : Call) : Type 0 where
-  pub budget : 0 < c .budget
-  pub room : 0 < c .room
-
--- all that the calls of a run gave together: the place after, points and additions summed, lists joined
-pub record Totals : Type 0 where
-  pub place : ℕ
-  pub points : ℕ
-  pub additions : ℕ
-  pub list : List ℕ
-
-unfoldable pub totalsOf : Trail → ℕ → List Call → Totals
-totalsOf T p [] = record { place = p; points = 0; additions = 0; list = [] }
-totalsOf T p (c ∷ cs) =
-    let k = pointsIn T (c .budget) (c .room) p in
-    let r = totalsOf T (p + k) cs in
-    record { place = r .place; points = k + r .points; additions = costIn T p k + r .additions; list = zerosIn T p k ++ r .list }
-
--- no call of the run is refused
-abbrev pub AllFair : List Call → Type 0
-AllFair [] = Unit {0}
-AllFair (c ∷ cs) = Fair c × AllFair cs
-
--- what a call of a run answers
-abbrev pub answerTo : Trail → Call → ℕ → Report
-answerTo T c p = reportOf T (c .budget) (c .room) p
-
--- what a call promises that begins at place p: it examines the next places, at most its budget and at least one if some are left,
--- and makes their additions; any list l that it is lent holds in front exactly the zeros among them, and the rest of l is untouched
-pub record OneCall (T : Trail) (c : Call) (p : ℕ) : Type 0 where
-  pub place : stopPlace (T .end) (answerTo T c p .stop) ≡ p + answerTo T c p .points
-  pub budget : answerTo T c p .points ≤ c .budget
-  pub one : p < T .end → 0 < answerTo T c p .points
-  pub within : p + answerTo T c p .points ≤ T .end
-  pub additions : answerTo T c p .additions ≡ costIn T p (answerTo T c p .points)
-  pub found : answerTo T c p .found ≡ length (zerosIn T p (answerTo T c p .points))
-  pub zeros : (l : List ℕ) → length l ≡ c .room → take (answerTo T c p .found) (listAfter T (c .budget) p l) ≡ zerosIn T p (answerTo T c p .points)
-  pub rest : (l : List ℕ) → length l ≡ c .room → drop (answerTo T c p .found) (listAfter T (c .budget) p l) ≡ drop (answerTo T c p .found) l
-  pub same : (l : List ℕ) → length l ≡ c .room → length (listAfter T (c .budget) p l) ≡ length l
-
--- that of every call of a run, each begun where the one before stopped
-abbrev pub EachCall : Trail → ℕ → List Call → Type 0
-EachCall T p [] = Unit {0}
-EachCall T p (c ∷ cs) = OneCall T c p × EachCall T (p + answerTo T c p .points) cs
-
--- demand 3, of a run from place 0 that has ended: the promise of each call, and that together they list all zeros in order,
--- examine as many points as there are places, and make the additions of all of them
-pub record Demand3 (T : Trail) (cs : List Call) : Type 0 where
-  pub each : EachCall T 0 cs
-  pub list : totalsOf T 0 cs .list ≡ zerosIn T 0 (T .end)
-  pub points : totalsOf T 0 cs .points ≡ T .end
-  pub additions : totalsOf T 0 cs .additions ≡ costIn T 0 (T .end)
 
 -- the same walk with another end
 abbrev pub until : Trail → ℕ → Trail

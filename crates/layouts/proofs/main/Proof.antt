@@ -1,34 +1,34 @@
 -- `layouts::main` is safe and ends.
 use mathlib.Core.Path.{sym, ap}
 use lib.Seq.{length-take-le}
-use Rattle.layouts.specs.Parts.{bytesOf}
+use Rattle.streams.specs.Counts.{bytesOf}
 use borrow.Author.Needs.{needs}
 use Rattle.layouts.proofs.main.Statement.{statement}
 use Rattle.layouts.proofs.main.Tie as tie
 
-slice-aggregate-read-input : tie.Need-slice-aggregate-read-input
-slice-aggregate-read-input c = search needs
+slice-aggregate-receive : tie.Need-slice-aggregate-receive
+slice-aggregate-receive c = search needs
 
-read-input-requires : tie.Need-read-input-requires
-read-input-requires c κs = search needs
+receive-requires : tie.Need-receive-requires
+receive-requires c κs = search needs
 
 enum-told : tie.Need-enum-told
 enum-told c = search needs
 
-slice-aggregate-write-all : tie.Need-slice-aggregate-write-all
-slice-aggregate-write-all c = search needs
+slice-aggregate-send : tie.Need-slice-aggregate-send
+slice-aggregate-send c = search needs
 
-write-all-requires : tie.Need-write-all-requires
-write-all-requires c κs = search needs
+send-requires : tie.Need-send-requires
+send-requires c κs = search needs
 
 enum-known-k : tie.Need-enum-known-k
 enum-known-k c = search needs
 
 array-share-prefix-buf : tie.Need-array-share-prefix-buf
-array-share-prefix-buf c = rw (sym (ap bytesOf (c .before .k .given .1))) (c .before .before .before .before .read-input .ensures)
+array-share-prefix-buf c = rw (sym (ap bytesOf (c .before .k .given .1))) (c .before .before .before .before .receive .ensures)
 
 slice-aggregate-run : tie.Need-slice-aggregate-run
-slice-aggregate-run c = sym (length-take-le _ (c .before .before .before .before .before .read-input .last .0) (rw (sym (ap bytesOf (c .before .before .k .given .1))) (c .before .before .before .before .before .read-input .ensures)))
+slice-aggregate-run c = sym (length-take-le _ (c .before .before .before .before .before .receive .last .1 .0) (rw (sym (ap bytesOf (c .before .before .k .given .1))) (c .before .before .before .before .before .receive .ensures)))
 
 slice-aggregate-run-2 : tie.Need-slice-aggregate-run-2
 slice-aggregate-run-2 c = search needs
@@ -45,11 +45,14 @@ slice-aggregate-run-5 c = search needs
 run-requires : tie.Need-run-requires
 run-requires c κs = search needs
 
-slice-aggregate-write-all-2 : tie.Need-slice-aggregate-write-all-2
-slice-aggregate-write-all-2 c = search needs
+array-share-prefix-text : tie.Need-array-share-prefix-text
+array-share-prefix-text c = search needs
 
-write-all-requires-2 : tie.Need-write-all-requires-2
-write-all-requires-2 c κs = search needs
+slice-aggregate-tell : tie.Need-slice-aggregate-tell
+slice-aggregate-tell c = sym (length-take-le (c .before .before .before .before .before .run .result .told) (c .before .before .before .before .before .run .last .1 .1 .1 .1 .0) (c .before .before .before .before .before .run .ensures .fits))
+
+tell-requires : tie.Need-tell-requires
+tell-requires c κs = search needs
 
 returns : tie.Need-returns
 returns c = search needs
@@ -57,18 +60,15 @@ returns c = search needs
 returns-2 : tie.Need-returns-2
 returns-2 c = search needs
 
-returns-3 : tie.Need-returns-3
-returns-3 c = search needs
-
 pub main-spec : {M : Type 1} → statement M
 main-spec =
     tie.close
     (tie.spec
-    slice-aggregate-read-input
-    read-input-requires
+    slice-aggregate-receive
+    receive-requires
     enum-told
-    slice-aggregate-write-all
-    write-all-requires
+    slice-aggregate-send
+    send-requires
     enum-known-k
     array-share-prefix-buf
     slice-aggregate-run
@@ -77,8 +77,8 @@ main-spec =
     slice-aggregate-run-4
     slice-aggregate-run-5
     run-requires
-    slice-aggregate-write-all-2
-    write-all-requires-2
+    array-share-prefix-text
+    slice-aggregate-tell
+    tell-requires
     returns
-    returns-2
-    returns-3)
+    returns-2)

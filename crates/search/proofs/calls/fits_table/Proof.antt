@@ -4,17 +4,17 @@ use mathlib.Core.Bool.{Bool, _&&_}
 use Prim.Native.Nat.{_≤_, _<_, _^_}
 use native.Mathlib.Omega.{arith}
 use borrow.Author.Tests.{le-leb, lt-leb}
-use Rattle.search.specs.declared.Record.{Record}
-use Rattle.search.specs.Opened.{openedAt}
+use Rattle.opening.specs.declared.Record.{Record}
+use Rattle.opening.specs.Opened.{openedAt}
 use Rattle.search.specs.Search.{sameRecord}
-use Rattle.search.proofs.OpenLaw.{within}
+use Rattle.opening.proofs.OpenLaw.{within}
 use borrow.Author.Needs.{needs}
 use Rattle.search.proofs.calls.fits_table.Statement.{statement}
 use Rattle.search.proofs.calls.fits_table.Tie as tie
 use Rattle.search.proofs.calls.fits_table.Reads as reads
 use Rattle.search.proofs.calls.fits_table.Lts as lts
-use Rattle.gray.proofs.power.Reads as power-reads
-use Rattle.search.proofs.opening.opened.Reads as opened-reads
+use Rattle.positions.proofs.power.Reads as power-reads
+use Rattle.opening.proofs.record_at.Reads as record-at-reads
 use Rattle.search.proofs.records.same_record.Reads as same-record-reads
 
 -- src/calls.rt:25:13
@@ -29,8 +29,8 @@ returns c =
     sym (ap (λ (x : Bool). x && sameRecord (s .args .r) (openedAt (s .args .n) (s .args .m) (s .args .table .now) (s .args .r .place .0))) (lt-leb (s .args .r .place .0) (3 ^ s .args .n) (omega (arith, c .if1 .taken))))
 
 -- src/calls.rt:28:9
-opened-requires : tie.Need-opened-requires
-opened-requires c κs =
+record-at-requires : tie.Need-record-at-requires
+record-at-requires c κs =
     let s = c .before .before .before in
     let p : c .before .power .result ≡ 3 ^ s .args .n = c .before .power .ensures .0 (omega (arith, within (s .args .n) (s .args .m) (s .args .table .now) (s .pre) .most)) in
     (s .pre, omega (arith, c .if1 .left))
@@ -44,9 +44,9 @@ returns-2 : tie.Need-returns-2
 returns-2 c =
     let s = c .before .before .before .before .before in
     let p : c .before .before .before .power .result ≡ 3 ^ s .args .n = c .before .before .before .power .ensures .0 (omega (arith, within (s .args .n) (s .args .m) (s .args .table .now) (s .pre) .most)) in
-    c .same-record .ensures ∙ ap (sameRecord (s .args .r)) (c .before .opened .ensures)
+    c .same-record .ensures ∙ ap (sameRecord (s .args .r)) (c .before .record-at .ensures)
     ∙ sym (ap (λ (x : Bool). x && sameRecord (s .args .r) (openedAt (s .args .n) (s .args .m) (s .args .table .now) (s .args .r .place .0))) (le-leb (s .args .r .place .0) (3 ^ s .args .n) (omega (arith, c .before .before .if1 .left))))
 
 pub fits-table-spec : {M : Type 1} → statement M
 fits-table-spec =
-    tie.close (tie.spec power-requires returns opened-requires same-record-requires returns-2)
+    tie.close (tie.spec power-requires returns record-at-requires same-record-requires returns-2)

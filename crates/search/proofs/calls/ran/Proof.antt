@@ -3,14 +3,14 @@ use mathlib.Core.Path.{_≡_, sym, ap, subst, _∙_}
 use Prim.Native.Nat.{ℕ, _^_, _≤_, _<_}
 use native.Mathlib.Omega.{arith}
 use lib.ListN.{length, length-map}
-use Rattle.search.proofs.OpenLaw.{within, table-long}
+use Rattle.opening.proofs.OpenLaw.{within, table-long}
 use Rattle.search.proofs.RanLaw.{fits-place, ran-is}
 use borrow.Author.Needs.{needs}
 use Rattle.search.proofs.calls.ran.Statement.{statement}
 use Rattle.search.proofs.calls.ran.Tie as tie
 use Rattle.search.proofs.calls.ran.Reads as reads
 use Rattle.search.proofs.calls.ran.Lts as lts
-use Rattle.gray.proofs.power.Reads as power-reads
+use Rattle.positions.proofs.power.Reads as power-reads
 use Rattle.search.proofs.calls.reported.Reads as reported-reads
 use Rattle.walk.proofs.run.Reads as run-reads
 

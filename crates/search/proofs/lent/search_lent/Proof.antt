@@ -41,11 +41,11 @@ use denote.Triple.Walked.{says, Stays, stay-ref, stay-none, stay-none-slice, gav
 use denote.Exit.{yes}
 use denote.Signature.{plain}
 use Rattle.search.specs.Search.{outcomeOf, listOf, Tells}
-use Rattle.search.specs.declared.Record.{Record}
+use Rattle.opening.specs.declared.Record.{Record}
 use Rattle.search.specs.declared.Answer.{Answer}
 use Rattle.search.specs.declared.Outcome.{Outcome}
-use Rattle.search.proofs.Record as T
-use Rattle.search.proofs.Record.Laws as T′
+use Rattle.opening.proofs.Record as T
+use Rattle.opening.proofs.Record.Laws as T′
 use Rattle.search.proofs.Outcome as O
 use Rattle.search.proofs.Outcome.Laws as O′
 use Rattle.search.proofs.Answer as N

@@ -3,6 +3,7 @@ use mathlib.Core.Path.{_≡_, sym, ap, _∙_}
 use Prim.Native.Nat.{ℕ, _*_, _<_, _≤_}
 use native.Mathlib.Omega.{arith}
 use borrow.Author.Tests.{not-true, not-false}
+use Rattle.refusals.proofs.RefusalLaw.{said-no, sized-not}
 use Rattle.tables.proofs.AnswerLaw.{copy-from, copy-to, copy-pair, copy-done}
 use borrow.Author.Needs.{needs}
 use Rattle.tables.proofs.checks.check_copy.Statement.{statement}
@@ -10,64 +11,54 @@ use Rattle.tables.proofs.checks.check_copy.Tie as tie
 use Rattle.tables.proofs.checks.check_copy.Reads as reads
 use Rattle.tables.proofs.checks.check_copy.Lts as lts
 use Rattle.tables.proofs.checks.legal_front.Reads as legal-front-reads
-use Rattle.tables.proofs.checks.sizes.Reads as sizes-reads
+use Rattle.refusals.proofs.sizes_fit.Reads as sizes-fit-reads
 use Rattle.tables.proofs.monomials.count.Reads as count-reads
 
--- src/checks.rt:68:9
-sizes-requires : tie.Need-sizes-requires
-sizes-requires c κs = search needs
+sizes-fit-requires : tie.Need-sizes-fit-requires
+sizes-fit-requires c κs = search needs
 
--- src/checks.rt:69:9
 returns : tie.Need-returns
-returns c = λ to e. sym (c .before .sizes .ensures .refused (not-true _ (c .if1 .taken)) _)
+returns c = λ to e. sym (sized-not _ _ _ (said-no _ (c .before .sizes-fit .ensures) (not-true _ (c .if1 .taken))))
 
--- src/checks.rt:71:9
 count-requires : tie.Need-count-requires
-count-requires c κs = c .before .sizes .ensures .unknowns (not-false _ (c .if1 .left))
+count-requires c κs = let w = c .before .sizes-fit .ensures .0 (not-false _ (c .if1 .left)) in (w .least, w .most)
 
--- src/checks.rt:72:22
 mul-if2 : tie.Need-mul-if2
 mul-if2 c = search needs
 
--- src/checks.rt:73:9
 returns-2 : tie.Need-returns-2
 returns-2 c = λ to e.
     let b = c .before in
     let a = b .before .before .before .before .args in
-    let s = b .before .before .sizes .ensures .passed (not-false _ (b .before .if1 .left)) in
+    let s = b .before .before .sizes-fit .ensures .0 (not-false _ (b .before .if1 .left)) in
     sym (copy-from (a .n) (a .m) (a .from .now) to s (b .count .result) (b .count .ensures .0) (c .if2 .taken))
 
--- src/checks.rt:75:17
 mul-if3 : tie.Need-mul-if3
 mul-if3 c = search needs
 
--- src/checks.rt:76:9
 returns-3 : tie.Need-returns-3
 returns-3 c = λ to e.
     let b = c .before .before in
     let a = b .before .before .before .before .args in
-    let s = b .before .before .sizes .ensures .passed (not-false _ (b .before .if1 .left)) in
+    let s = b .before .before .sizes-fit .ensures .0 (not-false _ (b .before .if1 .left)) in
     sym (copy-to (a .n) (a .m) (a .from .now) to s (b .count .result) (b .count .ensures .0) (c .before .if2 .left) (λ q. c .if3 .taken (sym e ∙ q)))
 
--- src/checks.rt:78:8
 legal-front-requires : tie.Need-legal-front-requires
 legal-front-requires c κs = search needs
 
--- src/checks.rt:79:9
 returns-4 : tie.Need-returns-4
 returns-4 c = λ to e.
     let b = c .before .before .before .before in
     let a = b .before .before .before .before .args in
-    let s = b .before .before .sizes .ensures .passed (not-false _ (b .before .if1 .left)) in
+    let s = b .before .before .sizes-fit .ensures .0 (not-false _ (b .before .if1 .left)) in
     let f = c .before .legal-front in
     sym (copy-pair (a .n) (a .m) (a .from .now) to s (b .count .result) (b .count .ensures .0) (c .before .before .before .if2 .left) (e ∙ c .before .before .if3 .left) (f .result) (f .ensures) (c .if4 .taken))
 
--- src/checks.rt:65:1
 returns-5 : tie.Need-returns-5
 returns-5 c = λ to e.
     let b = c .before .before .before .before in
     let a = b .before .before .before .before .args in
-    let s = b .before .before .sizes .ensures .passed (not-false _ (b .before .if1 .left)) in
+    let s = b .before .before .sizes-fit .ensures .0 (not-false _ (b .before .if1 .left)) in
     let f = c .before .legal-front in
     sym (copy-done (a .n) (a .m) (a .from .now) to s (b .count .result) (b .count .ensures .0) (c .before .before .before .if2 .left) (e ∙ c .before .before .if3 .left) (f .result) (f .ensures) (c .if4 .left))
 
@@ -75,7 +66,7 @@ pub check-copy-spec : {M : Type 1} → statement M
 check-copy-spec =
     tie.close
     (tie.spec
-    sizes-requires
+    sizes-fit-requires
     returns
     count-requires
     mul-if2

@@ -5,15 +5,15 @@ use Rattle.walk.proofs.steps.going.Tie as tie
 use Rattle.walk.proofs.steps.going.Reads as reads
 use Rattle.walk.proofs.steps.going.Lts as lts
 
--- src/steps.rt:18:9
+-- src/steps.rt:19:9
 returns : tie.Need-returns
 returns c = rw (eq-eqb _ _ (c .if1 .taken))
 
--- src/steps.rt:21:9
+-- src/steps.rt:22:9
 returns-2 : tie.Need-returns-2
 returns-2 c = rw (ne-eqb _ _ (c .before .if1 .left), eq-eqb _ _ (c .if2 .taken))
 
--- src/steps.rt:14:1
+-- src/steps.rt:15:1
 returns-3 : tie.Need-returns-3
 returns-3 c = rw (ne-eqb _ _ (c .before .if1 .left), ne-eqb _ _ (c .if2 .left))
 

@@ -1,0 +1,44 @@
+# shellcheck shell=bash
+# ./layouts: what it says, and what its refusals mean. Its program writes every layout of a graph file.
+# shellcheck disable=SC2034
+name=layouts
+
+usage() {
+    cat <<'END'
+Usage: ./layouts FILE
+       ./layouts < FILE      ("-" as FILE is standard input, too)
+       ./layouts --version   the commit, and the kit that proved the program
+       ./layouts --help      this text
+
+Reads a DIMACS colouring file and writes every layout of it: every way to give each vertex the
+number 0, 1 or 2 (a shift, a level) so that the two ends of each edge have different numbers.
+
+The file has at most 20 vertices, 64 edges and 32,768 bytes:
+    c any words                a comment
+    p edge 3 2                 3 vertices and 2 edges; once, before the edges
+    e 1 2                      vertices 1 and 2 must differ; one line for each edge
+
+Standard output: "vars V eqs E"; one line for each layout: its place in the search, its point and
+its digits, vertex 1 first; and the totals with the word "ended". Or one line "refused N line L".
+Standard error: words, and the progress of a long search when it is a terminal.
+
+Exit status: 0  the search ended and everything was written
+             2  the file was refused
+             1  anything else; the output is not to be taken for a whole one
+END
+}
+
+# What a refusal means; document 01's table in a planner's words.
+meaning() { # NUMBER LINE
+    case $1:$2 in
+    10:*) echo 'no known kind of line; there are "c words", "p edge V E" and "e A B", with single spaces, no empty ones, and neither carriage returns nor a byte order mark' ;;
+    11:0) echo 'there is no p line' ;;
+    11:*) echo 'a second p line, or an e line before the p line' ;;
+    12:*) echo 'vertices not 1 to 20, or edges not 1 to 64' ;;
+    13:*) echo 'an edge from a vertex to itself, or a vertex that was not declared' ;;
+    14:0) echo 'there are fewer e lines than the p line declares' ;;
+    14:*) echo 'one e line more than the p line declares' ;;
+    15:*) echo 'the text is longer than 32,768 bytes' ;;
+    *) echo 'the file was not taken' ;;
+    esac
+}

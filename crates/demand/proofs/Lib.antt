@@ -1,0 +1,5 @@
+pub mod SessionLaw
+pub mod DemandLaw
+pub mod SignedLaw
+pub mod RowsLaw
+pub mod Starred

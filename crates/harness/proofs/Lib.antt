@@ -1,0 +1,2 @@
+pub mod BytesLaw
+pub mod HarnessLaw

@@ -1,0 +1,3 @@
+pub mod CutLaw
+pub mod PieceLaw
+pub mod ListedLaw

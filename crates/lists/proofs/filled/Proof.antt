@@ -1,0 +1,173 @@
+-- `lists::filled` meets its contract: what was done and what is still to be done make up the whole call.
+use mathlib.Core.Path.{_≡_, refl, sym, ap, subst, _∙_}
+use mathlib.Core.Logic.{⊎-elim, inl, inr}
+use Prim.Native.Nat.{ℕ, _+_, _-_, _/_, _^_, _≤_, _<_}
+use native.Mathlib.Omega.{arith}
+use borrow.Author.Tests.{not-true, not-false}
+use lib.ListN.{length}
+use Rattle.search.specs.Parts.{stopFrom}
+use Rattle.opening.proofs.OpenLaw.{within}
+use Rattle.lists.proofs.PieceLaw.{Held, starts, long, at-within, own, closed, points-fit, found-fit, few, moved, again}
+use borrow.Author.Needs.{needs}
+use Rattle.lists.proofs.filled.Statement.{statement}
+use Rattle.lists.proofs.filled.Tie as tie
+use Rattle.lists.proofs.filled.Reads as reads
+use Rattle.lists.proofs.filled.Lts as lts
+use Rattle.positions.proofs.power.Reads as power-reads
+use Rattle.lists.proofs.did.Reads as did-reads
+use Rattle.lists.proofs.goes_on.Reads as goes-on-reads
+use Rattle.lists.proofs.part.Reads as part-reads
+use Rattle.search.proofs.stop_of.Reads as stop-of-reads
+
+abbrev Inv-loop : tie.InvT-loop
+Inv-loop n m table budget words₀ list₀ end len s₀ left₀ at₀ additions₀ words list s left at additions =
+    Held n m table s₀ budget list₀ (budget - left) left at additions list s × (0 < length words) × (length words ≡ length words₀)
+
+abbrev μ-loop : tie.MeasureT-loop
+μ-loop n m table budget words₀ list₀ end len s₀ left₀ at₀ additions₀ words list s left at additions = left
+
+-- src/lib.rt:97:9
+power-requires : tie.Need-power-requires Inv-loop μ-loop
+power-requires c κs = search needs
+
+-- src/lib.rt:103:5
+loop-holds : tie.Need-loop-holds Inv-loop μ-loop
+loop-holds c =
+    let s = c .before .before .before .before in
+    let a = s .args in
+    let z : 0 ≡ a .budget - a .budget = omega arith in
+    (subst (λ (k : ℕ). Held (a .n) (a .m) (a .table .now) (a .r) (a .budget) (a .list .now) k (a .budget) 0 0 (a .list .now) (a .r)) z (starts (a .n) (a .m) (a .table .now) (a .r) (a .budget) (a .list .now) (s .pre .1)), s .pre .2, refl)
+
+-- src/lib.rt:104:13
+part-requires : tie.Need-part-requires Inv-loop μ-loop
+part-requires c κs =
+    let l = c .before .before .loop in
+    let s = c .before .before .before .before .before .before .before in
+    let a = s .args in
+    (s .pre .0, own (a .n) (a .m) (a .table .now) (a .r) (a .budget) (a .list .now) (a .budget - l .left) (l .left) (l .at) (l .additions) (l .list) (l .s) (l .inv .0), omega (arith, at-within (a .n) (a .m) (a .table .now) (a .r) (a .budget) (a .list .now) (a .budget - l .left) (l .left) (l .at) (l .additions) (l .list) (l .s) (l .inv .0), long (a .n) (a .m) (a .table .now) (a .r) (a .budget) (a .list .now) (a .budget - l .left) (l .left) (l .at) (l .additions) (l .list) (l .s) (l .inv .0)))
+
+-- src/lib.rt:106:13
+did-requires : tie.Need-did-requires Inv-loop μ-loop
+did-requires c κs = search needs
+
+-- src/lib.rt:108:9
+add-at : tie.Need-add-at Inv-loop μ-loop
+add-at c =
+    let pt = c .before .before .before .before .before .before in
+    let l = pt .before .before .before .loop in
+    let a = pt .before .before .before .before .before .before .before .before .args in
+    let w = c .before .did in
+    omega (arith, found-fit (a .n) (a .m) (a .table .now) (a .r) (a .budget) (a .list .now) (a .budget - l .left) (l .left) (l .at) (l .additions) (l .list) (l .s) (l .inv .0) (length (l .words)) (pt .part .result) (pt .part .last .1 .1 .1 .1 .1 .1 .0) (w .result) (pt .part .ensures .0) (pt .part .ensures .1) (w .ensures), pt .before .before .before .before .before .before .before .before .good .1 .1 .1 .1 .1 .1 .0 .0)
+
+-- src/lib.rt:109:9
+sub-left : tie.Need-sub-left Inv-loop μ-loop
+sub-left c =
+    let pt = c .before .before .before .before .before .before .before in
+    let l = pt .before .before .before .loop in
+    let a = pt .before .before .before .before .before .before .before .before .args in
+    let w = c .before .before .did in
+    omega (arith, points-fit (a .n) (a .m) (a .table .now) (a .r) (a .budget) (a .list .now) (a .budget - l .left) (l .left) (l .at) (l .additions) (l .list) (l .s) (l .inv .0) (length (l .words)) (pt .part .result) (pt .part .last .1 .1 .1 .1 .1 .1 .0) (w .result) (pt .part .ensures .0) (pt .part .ensures .1) (w .ensures))
+
+-- src/lib.rt:110:9
+add-additions : tie.Need-add-additions Inv-loop μ-loop
+add-additions c =
+    let pt = c .before .before .before .before .before .before .before .before in
+    let l = pt .before .before .before .loop in
+    let a = pt .before .before .before .before .before .before .before .before .args in
+    let w = c .before .before .before .did in
+    omega (arith, few (a .n) (a .m) (a .table .now) (a .r) (a .budget) (a .list .now) (a .budget - l .left) (l .left) (l .at) (l .additions) (l .list) (l .s) (l .inv .0) (length (l .words)) (pt .part .result) (pt .part .last .1 .1 .1 .1 .1 .1 .0) (w .result) (pt .part .ensures .0) (pt .part .ensures .1) (w .ensures) (pt .before .before .before .before .before .before .before .before .pre .0))
+
+-- src/lib.rt:112:39
+sub-goes-on : tie.Need-sub-goes-on Inv-loop μ-loop
+sub-goes-on c =
+    let pt = c .before .before .before .before .before .before .before .before in
+    let l = pt .before .before .before .loop in
+    let a = pt .before .before .before .before .before .before .before .before .args in
+    let w = c .before .before .before .did in
+    omega (arith, found-fit (a .n) (a .m) (a .table .now) (a .r) (a .budget) (a .list .now) (a .budget - l .left) (l .left) (l .at) (l .additions) (l .list) (l .s) (l .inv .0) (length (l .words)) (pt .part .result) (pt .part .last .1 .1 .1 .1 .1 .1 .0) (w .result) (pt .part .ensures .0) (pt .part .ensures .1) (w .ensures))
+
+-- src/lib.rt:112:13
+goes-on-requires : tie.Need-goes-on-requires Inv-loop μ-loop
+goes-on-requires c κs = search needs
+
+-- src/lib.rt:113:17
+stop-of-requires : tie.Need-stop-of-requires Inv-loop μ-loop
+stop-of-requires c κs = search needs
+
+-- src/lib.rt:117:29
+sub-t27 : tie.Need-sub-t27 Inv-loop μ-loop
+sub-t27 c =
+    let pt = c .before .before .before .before .before .before .before .before .before .before .before in
+    let l = pt .before .before .before .loop in
+    let a = pt .before .before .before .before .before .before .before .before .args in
+    let w = c .before .before .before .before .before .before .did in
+    omega (arith, l .inv .0 .spare)
+
+-- src/lib.rt:114:13
+same-length : tie.Need-same-length Inv-loop μ-loop
+same-length c = search needs
+
+-- src/lib.rt:114:13
+same-length-2 : tie.Need-same-length-2 Inv-loop μ-loop
+same-length-2 c =
+    let pt = c .before .before .before .before .before .before .before .before .before .before .before in
+    let l = pt .before .before .before .loop in
+    let a = pt .before .before .before .before .before .before .before .before .args in
+    let w = c .before .before .before .before .before .before .did in
+    long (a .n) (a .m) (a .table .now) (a .r) (a .budget) (a .list .now) (a .budget - (l .left - w .result .points)) (l .left - w .result .points) (l .at + w .result .found) (l .additions + w .result .additions) _ _ (again (a .n) (a .m) (a .table .now) (a .r) (a .budget) (a .list .now) (l .left) (l .at) (l .additions) (l .list) (l .s) (l .inv .0) (length (l .words)) (pt .part .result) (pt .part .last .1 .1 .1 .1 .1 .1 .0) (w .result) (pt .part .ensures .0) (pt .part .ensures .1) (w .ensures))
+
+-- src/lib.rt:114:13
+returns : tie.Need-returns Inv-loop μ-loop
+returns c =
+    let pt = c .before .before .before .before .before .before .before .before .before .before .before in
+    let l = pt .before .before .before .loop in
+    let a = pt .before .before .before .before .before .before .before .before .args in
+    let w = c .before .before .before .before .before .before .did in
+    let e : pt .before .before .before .before .power .result ≡ 3 ^ a .n = pt .before .before .before .before .power .ensures .0 (omega (arith, within (a .n) (a .m) (a .table .now) (pt .before .before .before .before .before .before .before .before .pre .0) .most)) in
+    let o = c .before .before .goes-on .ensures .off (not-true _ (c .before .if1 .taken)) in
+    closed (a .n) (a .m) (a .table .now) (a .r) (a .budget) (a .list .now) (a .budget - (l .left - w .result .points)) (l .left - w .result .points) (l .at + w .result .found) (l .additions + w .result .additions) _ _ (again (a .n) (a .m) (a .table .now) (a .r) (a .budget) (a .list .now) (l .left) (l .at) (l .additions) (l .list) (l .s) (l .inv .0) (length (l .words)) (pt .part .result) (pt .part .last .1 .1 .1 .1 .1 .1 .0) (w .result) (pt .part .ensures .0) (pt .part .ensures .1) (w .ensures))
+    (c .stop-of .result) (c .stop-of .ensures ∙ ap (λ (x : ℕ). stopFrom (pt .part .result .«record» .place .0) x (l .at + w .result .found) (length (a .list .now) / 8)) e)
+    (⊎-elim (λ x. inl (x ∙ e)) (λ x. inr x) o)
+
+-- src/lib.rt:103:5
+loop-less : tie.Need-loop-less Inv-loop μ-loop
+loop-less c =
+    let pt = c .before .before .before .before .before .before .before .before .before .before in
+    let l = pt .before .before .before .loop in
+    let a = pt .before .before .before .before .before .before .before .before .args in
+    let w = c .before .before .before .before .before .did in
+    let e : pt .before .before .before .before .power .result ≡ 3 ^ a .n = pt .before .before .before .before .power .ensures .0 (omega (arith, within (a .n) (a .m) (a .table .now) (pt .before .before .before .before .before .before .before .before .pre .0) .most)) in
+    let g = c .before .goes-on .ensures .on (not-false _ (c .if1 .left)) in
+    omega (arith, moved (a .n) (a .m) (a .table .now) (a .r) (a .budget) (a .list .now) (a .budget - l .left) (l .left) (l .at) (l .additions) (l .list) (l .s) (l .inv .0) (length (l .words)) (pt .part .result) (pt .part .last .1 .1 .1 .1 .1 .1 .0) (w .result) (pt .part .ensures .0) (pt .part .ensures .1) (w .ensures) (l .inv .1) (λ x. g .0 (x ∙ sym e)) (g .1) (g .2), points-fit (a .n) (a .m) (a .table .now) (a .r) (a .budget) (a .list .now) (a .budget - l .left) (l .left) (l .at) (l .additions) (l .list) (l .s) (l .inv .0) (length (l .words)) (pt .part .result) (pt .part .last .1 .1 .1 .1 .1 .1 .0) (w .result) (pt .part .ensures .0) (pt .part .ensures .1) (w .ensures))
+
+-- src/lib.rt:103:5
+loop-again : tie.Need-loop-again Inv-loop μ-loop
+loop-again c =
+    let pt = c .before .before .before .before .before .before .before .before .before .before in
+    let l = pt .before .before .before .loop in
+    let a = pt .before .before .before .before .before .before .before .before .args in
+    let w = c .before .before .before .before .before .did in
+    (again (a .n) (a .m) (a .table .now) (a .r) (a .budget) (a .list .now) (l .left) (l .at) (l .additions) (l .list) (l .s) (l .inv .0) (length (l .words)) (pt .part .result) (pt .part .last .1 .1 .1 .1 .1 .1 .0) (w .result) (pt .part .ensures .0) (pt .part .ensures .1) (w .ensures), omega (arith, l .inv .1, pt .part .kept .1 .1 .1 .1 .1 .0), pt .part .kept .1 .1 .1 .1 .1 .0 ∙ l .inv .2)
+
+pub filled-spec : {M : Type 1} → statement M
+filled-spec =
+    tie.close
+    (tie.spec
+    Inv-loop
+    μ-loop
+    power-requires
+    loop-holds
+    part-requires
+    did-requires
+    add-at
+    sub-left
+    add-additions
+    sub-goes-on
+    goes-on-requires
+    stop-of-requires
+    sub-t27
+    same-length
+    same-length-2
+    returns
+    loop-less
+    loop-again)

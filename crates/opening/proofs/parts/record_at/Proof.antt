@@ -1,0 +1,30 @@
+-- `opening::parts::record_at` meets its contract: the room is the front of 462 words.
+use mathlib.Core.Path.{_≡_, refl, sym, ap, _∙_}
+use native.Mathlib.Omega.{arith}
+use lib.ListN.{length, length-take}
+use Rattle.opening.proofs.OpenLaw.{table-long, count-le}
+use borrow.Author.Needs.{needs}
+use Rattle.opening.proofs.parts.record_at.Statement.{statement}
+use Rattle.opening.proofs.parts.record_at.Tie as tie
+use Rattle.opening.proofs.parts.record_at.Reads as reads
+use Rattle.opening.proofs.parts.record_at.Lts as lts
+use Rattle.opening.proofs.parts.fill.Reads as fill-reads
+
+-- src/parts.rt:149:30
+array-borrow-prefix-c : tie.Need-array-borrow-prefix-c
+array-borrow-prefix-c c = let s = c .before in omega (arith, table-long (s .args .n) (s .args .m) (s .args .table .now) (s .pre .0), count-le (s .args .n) (s .args .m) (s .args .table .now) (s .pre .0))
+
+-- src/parts.rt:149:30
+slice-aggregate-fill : tie.Need-slice-aggregate-fill
+slice-aggregate-fill c = let s = c .before .before in simp length-take (omega (arith, table-long (s .args .n) (s .args .m) (s .args .table .now) (s .pre .0), count-le (s .args .n) (s .args .m) (s .args .table .now) (s .pre .0)))
+
+-- src/parts.rt:149:5
+fill-requires : tie.Need-fill-requires
+fill-requires c κs = let s = c .before .before in (s .pre .0, s .pre .1, simp length-take (omega (arith, table-long (s .args .n) (s .args .m) (s .args .table .now) (s .pre .0), count-le (s .args .n) (s .args .m) (s .args .table .now) (s .pre .0))))
+
+-- src/parts.rt:143:1
+returns : tie.Need-returns
+returns c = search needs
+
+pub record-at-spec : {M : Type 1} → statement M
+record-at-spec = tie.close (tie.spec array-borrow-prefix-c slice-aggregate-fill fill-requires returns)

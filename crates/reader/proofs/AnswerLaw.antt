@@ -1,0 +1,86 @@
+-- The answer and the words after it, for each way that a reading ends.
+use mathlib.Core.Path.{_≡_, refl, sym, ap, ap₂, _∙_}
+use mathlib.Core.List.{List, _++_}
+use Prim.Native.Nat.{ℕ, _+_, _-_, _*_, _≤_, _<_, min, max}
+use native.Mathlib.Omega.{arith}
+use lib.ListN.{length, getD, drop}
+use borrow.Author.Tests.{lt-ltb, le-ltb}
+use Rattle.tables.specs.Monomials.{countOf}
+use Rattle.tables.specs.Words.{wordsOf}
+use Rattle.refusals.specs.declared.Refusal.{Refusal}
+use Rattle.refusals.specs.declared.Refusal.the-variants as why
+use Rattle.lines.specs.Lines.{linesOf}
+use Rattle.graphs.specs.Reading.{textMost, verticesMost, wordsLeast, Ends, start, Outcome, graph, refused, readLines, outcomeOf}
+use Rattle.graphs.specs.Drawn.{Edged}
+use Rattle.graphs.proofs.SoundLaw.{text-drawn}
+use Rattle.reader.specs.declared.ReadAnswer.the-variants as answer
+use Rattle.reader.specs.Equations.{systemOf}
+use Rattle.reader.specs.Answers.{answerOf, wordsAfter, readTold, outcomeTold}
+
+-- ---- the outcome, test by test
+module _ (t : List ℕ) (w : ℕ) where
+  pub outcome-long : textMost < length t → outcomeOf t w ≡ refused why.Long 0
+  unfolding outcomeOf
+  outcome-long h = rw (lt-ltb textMost (length t) h)
+
+  pub outcome-words : length t ≤ textMost → w < wordsLeast → outcomeOf t w ≡ refused why.Length 0
+  unfolding outcomeOf
+  outcome-words h l = rw (le-ltb textMost (length t) h, lt-ltb w wordsLeast l)
+
+  pub outcome-lines : length t ≤ textMost → wordsLeast ≤ w → outcomeOf t w ≡ readLines 1 start (linesOf t)
+  unfolding outcomeOf
+  outcome-lines h l = rw (le-ltb textMost (length t) h, le-ltb w wordsLeast l)
+
+-- ---- answers
+-- an answer tells document 01's number and values
+told : (o : Outcome) → readTold (answerOf o) ≡ outcomeTold o
+told (graph v es) = refl
+told (refused r k) = refl
+
+pub answer-refused : (o : Outcome) (r : Refusal) (k : ℕ) (old : List ℕ) → o ≡ refused r k
+    → (answer.Refused r k ≡ answerOf o) × (old ≡ wordsAfter o old) × (readTold (answer.Refused r k) ≡ outcomeTold o)
+unfolding wordsAfter
+answer-refused o r k old e =
+    let a : answer.Refused r k ≡ answerOf o = sym (ap answerOf e) in
+    (a, sym (ap (λ (x : Outcome). wordsAfter x old) e), ap readTold a ∙ told o)
+
+after-graph : (v : ℕ) (es : List Ends) (old : List ℕ) → wordsAfter (graph v es) old ≡ wordsOf v (length es) (systemOf es) ++ drop (2 * countOf v) old
+unfolding wordsAfter
+after-graph v es old = refl
+
+pub answer-graph : (o : Outcome) (v k used : ℕ) (es : List Ends) (new old : List ℕ) → o ≡ graph v es → length es ≡ k → new ≡ wordsOf v k (systemOf es) → used ≡ 2 * countOf v
+    → (answer.Graph v k ≡ answerOf o) × (new ++ drop used old ≡ wordsAfter o old) × (readTold (answer.Graph v k) ≡ outcomeTold o)
+answer-graph o v k used es new old e l n u =
+    let a : answer.Graph v k ≡ answerOf o = sym (ap answerOf e ∙ ap (answer.Graph v) l) in (
+      a,
+      ap₂ (λ (x : List ℕ) (y : ℕ). x ++ drop y old) (n ∙ ap (λ (j : ℕ). wordsOf v j (systemOf es)) (sym l)) u ∙ sym (ap (λ (x : Outcome). wordsAfter x old) e ∙ after-graph v es old),
+      ap readTold a ∙ told o,
+    )
+
+-- ---- the graph that was read
+-- the ends in order, as unknowns
+pub record Ordered (v x y : ℕ) : Type 0 where
+  pub low : 1 ≤ min x y
+  pub high : 1 ≤ max x y
+  pub apart : min x y - 1 < max x y - 1
+  pub most : max x y - 1 < v
+
+pub in-order : (v x y : ℕ) → Edged v (record { one = x; other = y }) → Ordered v x y
+in-order v x y h =
+    let d : ¬ (x ≡ y) = h .apart in
+    let a : 1 ≤ x = h .one-least in
+    let b : x ≤ v = h .one-most in
+    let c : 1 ≤ y = h .other-least in
+    let e : y ≤ v = h .other-most in
+    record { low = omega arith; high = omega arith; apart = omega arith; most = omega arith }
+
+-- ---- what a caller knows of the answer
+graph-drawn : (t : List ℕ) (w n m : ℕ) (o : Outcome) → outcomeOf t w ≡ o → answerOf o ≡ answer.Graph n m → (1 ≤ n) × (n ≤ verticesMost)
+graph-drawn t w n m (graph v es) e q =
+    let p : v ≡ n = cc in
+    let d = text-drawn t w v es e in
+    (rw (← p) (d .least), rw (← p) (d .most))
+graph-drawn t w n m (refused r k) e q = let z : _≡_ {A = ℕ} 0 1 = cc in absurd (omega arith)
+
+pub answer-limits : (t : List ℕ) (w n m : ℕ) → answerOf (outcomeOf t w) ≡ answer.Graph n m → (1 ≤ n) × (n ≤ verticesMost)
+answer-limits t w n m q = graph-drawn t w n m (outcomeOf t w) refl q

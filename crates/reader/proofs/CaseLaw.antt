@@ -1,0 +1,37 @@
+-- The cases hold: each is computed.
+use mathlib.Core.Path.{refl}
+use Rattle.residues.specs.Sums.{same}
+use Rattle.trits.specs.Trit.{ofTrits, fromBits}
+use Rattle.tables.specs.Monomials.{countOf, productNth, nth}
+use Rattle.tables.specs.Words.{tabled, wordsOf}
+use Rattle.lines.specs.Lines.{firstOf, decimalFrom, pairIn, starts, linesOf}
+use Rattle.graphs.specs.Shapes.{shapeOf}
+use Rattle.graphs.specs.Reading.{takeLine, endOf, readLines, outcomeOf}
+use Rattle.reader.specs.Equations.{isEnd, edgePoly, systemOf}
+use Rattle.reader.specs.Answers.{wordsAfter}
+use Rattle.reader.specs.Cases.{Cases}
+
+pub cases : Cases
+unfolding same ofTrits fromBits countOf productNth nth tabled wordsOf firstOf decimalFrom pairIn starts shapeOf linesOf takeLine endOf readLines outcomeOf isEnd edgePoly systemOf wordsAfter
+cases =
+    record {
+      read = refl;
+      words = refl;
+      unended = refl;
+      nothing = refl;
+      empty-line = refl;
+      comment = refl;
+      return = refl;
+      early = refl;
+      twice = refl;
+      without = refl;
+      padded = refl;
+      spaced = refl;
+      vertex-none = refl;
+      vertex-past = refl;
+      loop = refl;
+      many = refl;
+      few = refl;
+      limits = refl;
+      lent = refl;
+    }

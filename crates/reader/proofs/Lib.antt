@@ -1,0 +1,4 @@
+pub mod WriteLaw
+pub mod AnswerLaw
+pub mod ColourLaw
+pub mod CaseLaw

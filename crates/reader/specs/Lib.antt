@@ -1,0 +1,4 @@
+pub mod Equations
+pub mod Answers
+pub mod Parts
+pub mod Cases

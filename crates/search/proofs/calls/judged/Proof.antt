@@ -1,0 +1,47 @@
+-- `search::calls::judged` meets its contract: by the verdict on the table.
+use mathlib.Core.Path.{sym, _∙_}
+use Rattle.search.proofs.VerdictLaw.{by-table}
+use borrow.Author.Needs.{needs}
+use Rattle.search.proofs.calls.judged.Statement.{statement}
+use Rattle.search.proofs.calls.judged.Tie as tie
+use Rattle.search.proofs.calls.judged.Reads as reads
+use Rattle.search.proofs.calls.judged.Lts as lts
+use Rattle.search.proofs.calls.judged_checked.Reads as judged-checked-reads
+use Rattle.tables.proofs.check.Reads as check-reads
+
+-- src/calls.rt:128:9
+check-requires : tie.Need-check-requires
+check-requires c κs = search needs
+
+-- src/calls.rt:130:26
+enum-known-verdict : tie.Need-enum-known-verdict
+enum-known-verdict c = search needs
+
+-- src/calls.rt:131:26
+enum-told : tie.Need-enum-told
+enum-told c = search needs
+
+-- src/calls.rt:131:26
+judged-checked-requires : tie.Need-judged-checked-requires
+judged-checked-requires c κs = sym (c .before .before .check .ensures .0) ∙ c .enum-told .given .1
+
+-- src/calls.rt:125:1
+returns : tie.Need-returns
+returns c =
+    let s = c .before .before .before .before .before in
+    by-table (s .args .n) (s .args .m) (s .args .table .now) (s .args .r) (s .args .budget) (s .args .room) _ (sym (c .before .before .before .check .ensures .0) ∙ c .before .verdict .given .1)
+
+-- src/calls.rt:125:1
+returns-2 : tie.Need-returns-2
+returns-2 c = search needs
+
+pub judged-spec : {M : Type 1} → statement M
+judged-spec =
+    tie.close
+    (tie.spec
+    check-requires
+    enum-known-verdict
+    enum-told
+    judged-checked-requires
+    returns
+    returns-2)

@@ -1,0 +1,3 @@
+pub mod WireLaw
+pub mod LentLaw
+pub mod SmallLaw

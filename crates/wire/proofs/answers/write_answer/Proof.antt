@@ -1,0 +1,56 @@
+-- `wire::answers::write_answer` meets its contract: five words, encoded.
+use mathlib.Core.Path.{ap₂, _∙_}
+use mathlib.Core.List.{[], _∷_}
+use Prim.Native.Nat.{ℕ}
+use Rattle.codec.specs.Codec.{bytesFrom, pasted}
+use Rattle.codec.proofs.CodecLaw.{paste-whole}
+use Rattle.search.specs.declared.Answer.the-variants.{Ran}
+use Rattle.search.specs.Search.{answerValues}
+use borrow.Author.Needs.{needs}
+use Rattle.wire.proofs.answers.write_answer.Statement.{statement}
+use Rattle.wire.proofs.answers.write_answer.Tie as tie
+use Rattle.wire.proofs.answers.write_answer.Reads as reads
+use Rattle.wire.proofs.answers.write_answer.Lts as lts
+use Rattle.codec.proofs.encode.Reads as encode-reads
+use Rattle.wire.proofs.answers.stop_number.Reads as stop-number-reads
+use Rattle.wire.proofs.answers.stop_place.Reads as stop-place-reads
+
+-- src/answers.rt:38:9
+stop-number-requires : tie.Need-stop-number-requires
+stop-number-requires c κs = search needs
+
+-- src/answers.rt:39:9
+stop-place-requires : tie.Need-stop-place-requires
+stop-place-requires c κs = search needs
+
+-- src/answers.rt:41:19
+slice-aggregate-encode : tie.Need-slice-aggregate-encode
+slice-aggregate-encode c = search needs
+
+-- src/answers.rt:41:5
+encode-requires : tie.Need-encode-requires
+encode-requires c κs = search needs
+
+-- src/answers.rt:33:1
+same-length : tie.Need-same-length
+same-length c = search needs
+
+-- src/answers.rt:33:1
+returns : tie.Need-returns
+returns c =
+    let s = c .before .before .before .before .before .before .before .before in
+    let a = s .args .a in
+    c .before .before .encode .ensures
+    ∙ ap₂ (λ (x y : ℕ). pasted (s .args .b .now) 0 (bytesFrom (x ∷ y ∷ a .points ∷ a .additions ∷ a .found ∷ []))) (c .before .before .before .before .before .before .stop-number .ensures) (c .before .before .before .before .before .stop-place .ensures)
+    ∙ paste-whole (s .args .b .now) (answerValues (s .args .end) (Ran a)) (s .pre)
+
+pub write-answer-spec : {M : Type 1} → statement M
+write-answer-spec =
+    tie.close
+    (tie.spec
+    stop-number-requires
+    stop-place-requires
+    slice-aggregate-encode
+    encode-requires
+    same-length
+    returns)

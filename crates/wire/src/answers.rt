@@ -1,0 +1,46 @@
+// The answer of a search as bytes.
+use walks::Report;
+use walks::Stop;
+ghost use mathlib.Core.Path.{_≡_};
+ghost use lib.ListN.{length};
+ghost use Rattle.codec.specs.Codec.{bytesFrom};
+ghost use Rattle.walks.specs.Calls.{stopNumber, stopPlace};
+ghost use Rattle.search.specs.declared.Answer.the-variants.{Ran};
+ghost use Rattle.search.specs.Search.{answerValues};
+ghost use Rattle.wire.specs.Wire.{answerLength};
+
+// The bytes of an answer: five words.
+pub const ANSWER_LENGTH: usize = 40;
+
+fn stop_number(s: Stop) -> u64
+    ensures { λ r. ⌜ r ≡ stopNumber s ⌝ }
+{
+    match s {
+        Stop::Ended => 0,
+        Stop::Full(_) => 1,
+        Stop::Spent(_) => 2,
+    }
+}
+
+// The place that goes with a stop of a walk that ends at place `end`.
+fn stop_place(end: u64, s: Stop) -> u64
+    ensures { λ r. ⌜ r ≡ stopPlace end s ⌝ }
+{
+    match s {
+        Stop::Ended => end,
+        Stop::Full(x) => x.0,
+        Stop::Spent(x) => x.0,
+    }
+}
+
+// All of b becomes the 40 bytes of an answer, of a walk that ends at place `end`.
+pub fn write_answer(end: u64, a: Report, b: &mut [u8])
+    requires { ⌜ length (now b) ≡ answerLength ⌝ }
+    ensures { λ _. ⌜ now (b .exit) ≡ bytesFrom (answerValues end (Ran a)) ⌝ }
+{
+    let s = a.stop;
+    let stop = stop_number(s);
+    let place = stop_place(end, s);
+    let w = [stop, place, a.points, a.additions, a.found];
+    codec::encode(&w, b, 0);
+}
