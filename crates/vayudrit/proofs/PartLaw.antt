@@ -70,11 +70,11 @@ module _ (n m : ℕ) (t : List ℕ) where
       let w = sized-within n m (long n t (paired n m t v)) e in
       let e1 = sized-done n m (long n t (paired n m t v)) e in
       let e2 = done-next size refusal.Length (paired n m t v) e1 in
-      let e3 = done-next pair refusal.Pair v e2 in
+      let e3 = done-next pair (refusal.Pair (legalFront m t)) v e2 in
       record {
         checked = sized-next n m (long n t (paired n m t verdict.Done)) w
             ∙ refuse-none size refusal.Length (paired n m t verdict.Done) (done-test size refusal.Length (paired n m t v) e1)
-            ∙ refuse-none pair refusal.Pair verdict.Done (done-test pair refusal.Pair v e2);
+            ∙ refuse-none pair (refusal.Pair (legalFront m t)) verdict.Done (done-test pair (refusal.Pair (legalFront m t)) v e2);
         unknowns = w .most;
         place = leb-true (s .place .0) (3 ^ n)
             (and-left (leb (s .place .0) (3 ^ n)) (sameRecord s (openedAt n m t (s .place .0)))

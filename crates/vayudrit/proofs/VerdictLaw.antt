@@ -42,7 +42,7 @@ not-refused f w e = let z : _≡_ {A = ℕ} 0 1 = cc in absurd (omega arith)
 number-pos : (f : Refusal) → numberOf f ≡ 0 → ⊥
 number-pos Size e = omega (arith, e)
 number-pos Length e = omega (arith, e)
-number-pos refusal.Pair e = omega (arith, e)
+number-pos (refusal.Pair k) e = omega (arith, e)
 number-pos refusal.Range e = omega (arith, e)
 number-pos refusal.Record e = omega (arith, e)
 number-pos refusal.Budget e = omega (arith, e)
