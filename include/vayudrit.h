@@ -30,8 +30,10 @@
  *
  * REFUSALS
  *
- * Each function returns 0, or the number of a refusal. A refusal alters no byte of any buffer. If several apply, the
- * smallest number is returned: each is asked of all arguments before the next.
+ * Each function returns 0, or a refusal. A refusal alters no byte of any buffer. If several apply, the one of the
+ * smallest number is returned: each is asked of all arguments before the next. A refusal r is its number, except that
+ * of an illegal pair, which also tells the first entry that is none: 3 + 256 * entry, entries being numbered as the
+ * monomials are, the constant 0. VAYUDRIT_NUMBER(r) is the number of any r, VAYUDRIT_ENTRY(r) the entry where that is 3.
  */
 #ifndef VAYUDRIT_H
 #define VAYUDRIT_H
@@ -59,13 +61,17 @@ extern "C" {
 #define VAYUDRIT_DONE 0           /* nothing was refused */
 #define VAYUDRIT_REFUSED_SIZE 1   /* n is not 1 to 20, or m is not 1 to 64 */
 #define VAYUDRIT_REFUSED_LENGTH 2 /* a buffer is not of the exact length, or the list's bytes are no multiple of 8 */
-#define VAYUDRIT_REFUSED_PAIR 3   /* a table holds an illegal pair */
+#define VAYUDRIT_REFUSED_PAIR 3   /* a table holds an illegal pair; returned with 256 times the number of its entry */
 #define VAYUDRIT_REFUSED_RANGE 4  /* a place for opening above 3^n; a place or point to convert or to evaluate at of 3^n
                                      or more; a balanced number outside its ends */
 #define VAYUDRIT_REFUSED_RECORD 5 /* the record's n or m is not the table's, its place is above 3^n, or it is not the
                                      record that opening this table at its place gives */
 #define VAYUDRIT_REFUSED_BUDGET 6 /* the budget is 0 */
 #define VAYUDRIT_REFUSED_LIST 7   /* the list has no entry */
+
+/* A refusal taken apart: its number, 0 where nothing was refused, and for VAYUDRIT_REFUSED_PAIR the illegal entry. */
+#define VAYUDRIT_NUMBER(r) ((r) % 256)
+#define VAYUDRIT_ENTRY(r) ((r) / 256)
 
 /* Why a search stopped: word 0 of its answer. */
 #define VAYUDRIT_ENDED 0 /* the place is 3^n: every point was examined */

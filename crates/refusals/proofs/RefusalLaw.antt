@@ -19,7 +19,7 @@ use Rattle.refusals.specs.Refusal.{numberOf, refuse, sizedUnknowns, size
 pub number-pos : (f : Refusal) → numberOf f ≡ 0 → ⊥
 number-pos refusal.Size e = omega (arith, e)
 number-pos refusal.Length e = omega (arith, e)
-number-pos refusal.Pair e = omega (arith, e)
+number-pos (refusal.Pair k) e = omega (arith, e)
 number-pos refusal.Range e = omega (arith, e)
 number-pos refusal.Record e = omega (arith, e)
 number-pos refusal.Budget e = omega (arith, e)

@@ -53,8 +53,8 @@ pub enum Refusal {
     Size,
     // A table or row table, read or to be written, is not of the exact length.
     Length,
-    // A table holds an illegal pair.
-    Pair,
+    // A table holds an illegal pair: the number of the first entry that is none, the constant being 0.
+    Pair(u32),
     // A place, a point or a balanced number lies outside its range.
     Range,
     // A record is not the one that opening at its place gives.
@@ -77,14 +77,14 @@ pub enum Refusal {
     Long,
 }
 
-// Document 01's number for it.
+// Document 01's number for it; an illegal pair's with 256 times its entry.
 pub fn number(r: Refusal) -> u64
     ensures { λ k. ⌜ k ≡ numberOf r ⌝ }
 {
     match r {
         Refusal::Size => 1,
         Refusal::Length => 2,
-        Refusal::Pair => 3,
+        Refusal::Pair(k) => 3 + 256 * (k as u64),
         Refusal::Range => 4,
         Refusal::Record => 5,
         Refusal::Budget => 6,
