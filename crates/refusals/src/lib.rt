@@ -29,6 +29,8 @@ pub enum Refusal {
     Count,
     // The text is too long.
     Long,
+    // A graph has more different edges than there are equations.
+    Edges,
 }
 
 // Document 01's number for it.
@@ -49,6 +51,7 @@ pub fn number(r: Refusal) -> u64
         Refusal::Vertex => 13,
         Refusal::Count => 14,
         Refusal::Long => 15,
+        Refusal::Edges => 16,
     }
 }
 

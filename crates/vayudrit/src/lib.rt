@@ -14,10 +14,12 @@ ghost use Rattle.search.specs.Search.{answerNumber};
 ghost use Rattle.vayudrit.specs.Call.{shaped, callVerdict, recordBytes, answerBytes, recordAfter, listAfter, answerAfter};
 
 mod chunks;
+mod graph;
 mod layout;
 mod operations;
 mod puts;
 
+pub use graph::vayudrit_read_graph;
 pub use operations::vayudrit_balanced;
 pub use operations::vayudrit_check;
 pub use operations::vayudrit_coefficients;
