@@ -75,6 +75,8 @@ pub enum Refusal {
     Count,
     // The text is too long.
     Long,
+    // A graph has more different edges than there are equations.
+    Edges,
 }
 
 // Document 01's number for it.
@@ -95,6 +97,7 @@ pub fn number(r: Refusal) -> u64
         Refusal::Vertex => 13,
         Refusal::Count => 14,
         Refusal::Long => 15,
+        Refusal::Edges => 16,
     }
 }
 
