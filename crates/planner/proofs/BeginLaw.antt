@@ -108,7 +108,7 @@ begun-refused input table b f number line r e q h =
       output = ap writtenFor (refused-is (outcomeOf input 462) f line (sym e)) ∙ ap (λ (x : ℕ). refusalLine x line) (sym q) ∙ sym (h .bytes)
           ∙ sym (append-none (take (r .used) b))
           ∙ ap (λ (x : Bool). take (r .used) b ++ leftIf x (leftFrom (r .n) (trailOf (r .n) (r .m) (take (2 * countOf (r .n)) table)) (r .points))) (sym (h .over));
-      told = ap toldFor (answer-refused (outcomeOf input 462) f line (sym e)) ∙ ap (λ (x : ℕ). refusalLine x line) (sym q) ∙ sym (h .bytes)
+      told = ap toldFor (refused-is (outcomeOf input 462) f line (sym e)) ∙ ap (λ (x : ℕ). refusalLine x line) (sym q) ∙ sym (h .bytes)
           ∙ ap (λ (x : Bool). toldWhen x (take (r .used) b)) (sym (h .over));
       standing = λ o. absurd (true≢false (sym o ∙ h .over));
       used = h .used;
