@@ -5,14 +5,16 @@ use Prim.Native.Nat.{ℕ, zero, suc, _+_, _-_, _*_, _/_, _%_, _^_, _≤_, _<_}
 use lib.Pow.{pow-add}
 use native.Mathlib.Omega.{arith}
 use lib.ListN.{length, getD, set, drop}
+use lib.Seq.{getD-set-same}
 use Rattle.trits.specs.declared.Vector.{Vector}
 use Rattle.trits.specs.Trit.{none}
+use Rattle.trits.specs.Words.{addOf}
 use Rattle.positions.specs.Positions.{lowestOf, positions, reps}
 use Rattle.positions.proofs.LowestLaw.{of-times}
 use Rattle.positions.proofs.PositionLaw.{positions-next}
 use Rattle.walks.specs.Walk.{iterate, turns, block}
 use Rattle.walks.proofs.BlockLaw.{block-is}
-use Rattle.moves.specs.Step.{State, bump, moveOf, walkBy, walkOf}
+use Rattle.moves.specs.Step.{State, push, lift, bump, moveOf, walkBy, walkOf}
 use Rattle.blocks.specs.Parts.{whole, threeOf, rowsOf, nineOf, legsOf, bigOf, topOf}
 use Rattle.moves.specs.Moves.{headed, turnedIn}
 use Rattle.moves.specs.declared.Moved.{Moved}
@@ -80,6 +82,12 @@ pub headed3 : (x : Part) (rest : List Vector) (l : List ℕ) (b : ℕ) (r : Move
 headed3 x rest l b r h =
     ap (λ (v : List Vector). record { place = x .place; value = r .value; slots = v; additions = r .additions; found = x .found; list = l })
     (sym (set3 (x .s0) (x .s1) (x .s2) rest b (r .slot) h))
+
+-- a move of slot b, from the two additions that the code made
+pub headed-bump : (b : ℕ) (t v : Vector) (s : State) (m : Moved) → b < length (s .slots) → v ≡ getD (s .slots) b none → m .slot ≡ addOf v t
+    → m .value ≡ addOf (s .value) (addOf v t) → m .additions ≡ s .additions + 1 + 1 → headed s b m ≡ bump b t s
+unfolding bump push lift
+headed-bump b t v s m l e hs hv ha = rw (hv, hs, ha, e, getD-set-same (s .slots) b (addOf (getD (s .slots) b none) t) none l)
 
 -- 27 places, from what the parts of the code give, with the places of the zeros found turned into their points at last
 pub block27-is : (n : ℕ) (T : ℕ → ℕ → Vector) (x y : Part) (rest : List Vector) (l l' l'' : List ℕ) (b : ℕ) (r : Moved)

@@ -1,13 +1,16 @@
 // Blocks of 27 places: 27 is three nines, nine is three threes, and only slots 0 to 2 move inside.
+use moves::Moved;
 use moves::jot;
 use moves::raise;
 use trits::Vector;
 ghost use mathlib.Core.Path.{_≡_};
 ghost use mathlib.Core.List.{List};
 ghost use Prim.Native.Nat.{ℕ, _+_, _^_, _<_, _≤_};
-ghost use lib.ListN.{length};
+ghost use lib.ListN.{length, getD};
 ghost use Rattle.trits.specs.declared.Vector.{Vector};
+ghost use Rattle.trits.specs.Trit.{none};
 ghost use Rattle.moves.specs.Step.{bump};
+ghost use Rattle.moves.specs.Moves.{headed};
 ghost use Rattle.blocks.specs.Parts.{whole, Went, jotOf, threeOf, nineOf, bigOf};
 
 // What moves inside a block: the value, the slots of unknowns 0 to 2, and the counts. Flat, so that it stays in registers.
@@ -45,55 +48,52 @@ fn note(mut x: Part, list: &mut [u64]) -> Part
     x
 }
 
-// Slot 0 is brought up by t and added to the value.
-fn move0(mut x: Part, t: Vector) -> Part
-    requires { ⌜ x .additions + 2 < 2 ^ 64 ⌝ }
-    ensures state { λ r. ⌜ ((rest : List Vector) (l : List ℕ) → whole r rest l ≡ bump 0 t (whole x rest l)) ⌝ }
-    ensures went { λ r. ⌜ Went x r 0 2 ⌝ }
+// Slot b of the three.
+fn slot(x: Part, b: u32) -> Vector
+    requires { ⌜ b < 3 ⌝ }
+    ensures { λ r. ⌜ ((rest : List Vector) (l : List ℕ) → r ≡ getD (whole x rest l .slots) b none) ⌝ }
 {
-    let slot = x.s0;
-    let value = x.value;
-    let m = raise(slot, value, t, x.additions);
-    let up = m.slot;
-    let next = m.value;
-    x.s0 = up;
-    x.value = next;
-    x.additions = m.additions;
-    x
+    if b == 0 {
+        return x.s0;
+    }
+    if b == 1 {
+        return x.s1;
+    }
+    x.s2
 }
 
-// The same with slot 1.
-fn move1(mut x: Part, t: Vector) -> Part
-    requires { ⌜ x .additions + 2 < 2 ^ 64 ⌝ }
-    ensures state { λ r. ⌜ ((rest : List Vector) (l : List ℕ) → whole r rest l ≡ bump 1 t (whole x rest l)) ⌝ }
-    ensures went { λ r. ⌜ Went x r 0 2 ⌝ }
+// The parts with what a move of slot b gave.
+fn after(mut x: Part, b: u32, m: Moved) -> Part
+    requires { ⌜ b < 3 ⌝ }
+    ensures state { λ r. ⌜ ((rest : List Vector) (l : List ℕ) → whole r rest l ≡ headed (whole x rest l) b m) ⌝ }
+    ensures counts { λ r. ⌜ (r .place ≡ x .place) × (r .found ≡ x .found) × (r .additions ≡ m .additions) ⌝ }
 {
-    let slot = x.s1;
-    let value = x.value;
-    let m = raise(slot, value, t, x.additions);
     let up = m.slot;
     let next = m.value;
-    x.s1 = up;
     x.value = next;
     x.additions = m.additions;
-    x
-}
-
-// The same with slot 2.
-fn move2(mut x: Part, t: Vector) -> Part
-    requires { ⌜ x .additions + 2 < 2 ^ 64 ⌝ }
-    ensures state { λ r. ⌜ ((rest : List Vector) (l : List ℕ) → whole r rest l ≡ bump 2 t (whole x rest l)) ⌝ }
-    ensures went { λ r. ⌜ Went x r 0 2 ⌝ }
-{
-    let slot = x.s2;
-    let value = x.value;
-    let m = raise(slot, value, t, x.additions);
-    let up = m.slot;
-    let next = m.value;
+    if b == 0 {
+        x.s0 = up;
+        return x;
+    }
+    if b == 1 {
+        x.s1 = up;
+        return x;
+    }
     x.s2 = up;
-    x.value = next;
-    x.additions = m.additions;
     x
+}
+
+// Slot b is brought up by t and added to the value. With a number for b the compiler keeps one of the three.
+fn raise_slot(x: Part, b: u32, t: Vector) -> Part
+    requires { ⌜ (b < 3) × (x .additions + 2 < 2 ^ 64) ⌝ }
+    ensures state { λ r. ⌜ ((rest : List Vector) (l : List ℕ) → whole r rest l ≡ bump b t (whole x rest l)) ⌝ }
+    ensures went { λ r. ⌜ Went x r 0 2 ⌝ }
+{
+    let s = slot(x, b);
+    let value = x.value;
+    let m = raise(s, value, t, x.additions);
+    after(x, b, m)
 }
 
 // A place where slot 0 moves.
@@ -102,7 +102,7 @@ fn step0(x: Part, t: Vector, list: &mut [u64]) -> Part
     ensures state { λ r. ⌜ ((rest : List Vector) → whole r rest (now (list .exit)) ≡ jotOf (bump 0 t (whole x rest (now (list .entry))))) ⌝ }
     ensures went { λ r. ⌜ Went x r 1 2 ⌝ }
 {
-    let m = move0(x, t);
+    let m = raise_slot(x, 0, t);
     note(m, list)
 }
 
@@ -135,7 +135,7 @@ fn nine(x: Part, t0h: Vector, t1h: Vector, top: Top, list: &mut [u64]) -> Part
         if left == 0 {
             return y;
         }
-        y = move1(y, a1);
+        y = raise_slot(y, 1, a1);
         a0 = t01;
         a1 = t11;
         left -= 1;
@@ -168,7 +168,7 @@ pub(crate) fn big(
         if left == 0 {
             return y;
         }
-        y = move2(y, a2);
+        y = raise_slot(y, 2, a2);
         a0 = t02;
         a1 = t12;
         a2 = t22;

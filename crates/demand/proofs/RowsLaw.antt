@@ -30,7 +30,7 @@ use Rattle.tables.proofs.WordLaw.{nth-poly, front-whole}
 use Rattle.tables.proofs.AgreeLaw.{Agree, agree-trans, back-agree, back-of-table}
 use Rattle.tables.proofs.RoundLaw.{differences-table, differences-hold, packed-table, packed-holds}
 use Rattle.walks.specs.Runs.{Request, SaysEnded}
-use Rattle.walks.specs.Zeros.{placesIn}
+use Rattle.walks.specs.Zeros.{Rising, placesIn}
 use Rattle.walks.proofs.ZeroLaw.{places-in, places-rise}
 use Rattle.opening.specs.declared.Record.{Record}
 use Rattle.opening.specs.Opened.{systemOf, openedAt, noRecord, openVerdict, openOf}
@@ -154,7 +154,7 @@ module _ (n m : ℕ) (rows : List ℤ) (c d : List ℕ) (ok : packVerdict n m ro
       record {
         all = λ x. trans-iff (w .all x) (zero-rows n m rows x);
         once = w .once;
-        order = rw b (places-rise T 0 (3 ^ n));
+        order = subst Rising (sym b) (places-rise T 0 (3 ^ n));
       }
 
   -- pack the rows, take the differences, open at 0, search until the last accepted answer is "ended":

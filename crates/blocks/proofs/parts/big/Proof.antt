@@ -12,7 +12,7 @@ use Rattle.blocks.proofs.parts.big.Statement.{statement}
 use Rattle.blocks.proofs.parts.big.Tie as tie
 use Rattle.blocks.proofs.parts.big.Reads as reads
 use Rattle.blocks.proofs.parts.big.Lts as lts
-use Rattle.blocks.proofs.parts.move2.Reads as move2-reads
+use Rattle.blocks.proofs.parts.raise_slot.Reads as raise-slot-reads
 use Rattle.blocks.proofs.parts.nine.Reads as nine-reads
 
 abbrev Inv-loop : tie.InvT-loop
@@ -51,13 +51,13 @@ returns c =
     )
 
 -- src/parts.rt:230:9
-move2-requires : tie.Need-move2-requires Inv-loop μ-loop
-move2-requires c κs =
+raise-slot-requires : tie.Need-raise-slot-requires Inv-loop μ-loop
+raise-slot-requires c κs =
     let g = c .before .before .before .nine in
     let l = c .before .before .before .before .before .loop in
     let s = c .before .before .before .before .before .before .before .before .before .before in
     let a = s .args in
-    omega (arith, g .ensures .1, l .inv .0, l .inv .2, s .pre)
+    (omega arith, omega (arith, g .ensures .1, l .inv .0, l .inv .2, s .pre))
 
 -- src/parts.rt:234:9
 sub-left : tie.Need-sub-left Inv-loop μ-loop
@@ -74,7 +74,7 @@ loop-again c =
     let l = c .before .before .before .before .before .before .loop in
     let s = c .before .before .before .before .before .before .before .before .before .before .before in
     let a = s .args in
-    let m = c .move2 .ensures in
+    let m = c .raise-slot .ensures in
     let w = l .inv .2 in
     let e = g .ensures .1 in
     let v = m .1 in
@@ -98,7 +98,7 @@ big-spec =
     nine-requires
     same-length
     returns
-    move2-requires
+    raise-slot-requires
     sub-left
     loop-less
     loop-again)

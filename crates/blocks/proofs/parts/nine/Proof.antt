@@ -12,7 +12,7 @@ use Rattle.blocks.proofs.parts.nine.Statement.{statement}
 use Rattle.blocks.proofs.parts.nine.Tie as tie
 use Rattle.blocks.proofs.parts.nine.Reads as reads
 use Rattle.blocks.proofs.parts.nine.Lts as lts
-use Rattle.blocks.proofs.parts.move1.Reads as move1-reads
+use Rattle.blocks.proofs.parts.raise_slot.Reads as raise-slot-reads
 use Rattle.blocks.proofs.parts.three.Reads as three-reads
 
 abbrev Inv-loop : tie.InvT-loop
@@ -48,12 +48,12 @@ returns c =
       record { place = omega (arith, c .if1); found = omega (arith, c .if1); additions = omega (arith, c .if1) },
     )
 
-move1-requires : tie.Need-move1-requires Inv-loop μ-loop
-move1-requires c κs =
+raise-slot-requires : tie.Need-raise-slot-requires Inv-loop μ-loop
+raise-slot-requires c κs =
     let g = c .before .before .before .three in
     let l = c .before .before .before .before .before .loop in
     let s = c .before .before .before .before .before .before .before .before .before .before in
-    omega (arith, g .ensures .1, l .inv .0, l .inv .2, s .pre)
+    (omega arith, omega (arith, g .ensures .1, l .inv .0, l .inv .2, s .pre))
 
 sub-left : tie.Need-sub-left Inv-loop μ-loop
 sub-left c = omega (arith, c .before .if1)
@@ -68,7 +68,7 @@ loop-again c =
     let s = c .before .before .before .before .before .before .before .before .before .before .before in
     let a = s .args in
     let t = a .top in
-    let m = c .move1 .ensures in
+    let m = c .raise-slot .ensures in
     let w = l .inv .2 in
     let e = g .ensures .1 in
     let v = m .1 in
@@ -92,7 +92,7 @@ nine-spec =
     three-requires
     same-length
     returns
-    move1-requires
+    raise-slot-requires
     sub-left
     loop-less
     loop-again)
