@@ -21,9 +21,11 @@ static uint64_t word_at(const uint8_t *bytes, size_t i)
     return w;
 }
 
-static int refused(const char *what, uint64_t number)
+static int refused(const char *what, uint64_t refusal)
 {
-    printf("%s: refused %d\n", what, (int)number);
+    printf("%s: refused %d\n", what, (int)VAYUDRIT_NUMBER(refusal));
+    if (VAYUDRIT_NUMBER(refusal) == VAYUDRIT_REFUSED_PAIR)
+        printf("entry %d\n", (int)VAYUDRIT_ENTRY(refusal));
     return 1;
 }
 

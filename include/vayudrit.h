@@ -30,8 +30,12 @@
  *
  * REFUSALS
  *
- * Each function returns 0, or the number of a refusal (vayudrit_read_graph adds its line). A refusal alters no byte of any buffer. If several apply, the
- * smallest number is returned: each is asked of all arguments before the next.
+ * Each function returns 0, or a refusal. A refusal alters no byte of any buffer. If several apply, the one of the
+ * smallest number is returned: each is asked of all arguments before the next. A refusal r is its number, except that
+ * of an illegal pair, which also tells the first entry that is none: 3 + 256 * entry, entries being numbered as the
+ * monomials are, the constant 0; and except those of vayudrit_read_graph, which tell the line: number + 256 * line.
+ * VAYUDRIT_NUMBER(r) is the number of any r, VAYUDRIT_ENTRY(r) the entry where that is 3, VAYUDRIT_LINE(r) the line of a
+ * text.
  */
 #ifndef VAYUDRIT_H
 #define VAYUDRIT_H
@@ -61,7 +65,7 @@ extern "C" {
 #define VAYUDRIT_DONE 0           /* nothing was refused */
 #define VAYUDRIT_REFUSED_SIZE 1   /* n is not 1 to 20, or m is not 1 to 64 */
 #define VAYUDRIT_REFUSED_LENGTH 2 /* a buffer is not of the exact length, or the list's bytes are no multiple of 8 */
-#define VAYUDRIT_REFUSED_PAIR 3   /* a table holds an illegal pair */
+#define VAYUDRIT_REFUSED_PAIR 3   /* a table holds an illegal pair; returned with 256 times the number of its entry */
 #define VAYUDRIT_REFUSED_RANGE 4  /* a place for opening above 3^n; a place or point to convert or to evaluate at of 3^n
                                      or more; a balanced number outside its ends */
 #define VAYUDRIT_REFUSED_RECORD 5 /* the record's n or m is not the table's, its place is above 3^n, or it is not the
@@ -70,8 +74,6 @@ extern "C" {
 #define VAYUDRIT_REFUSED_LIST 7   /* the list has no entry */
 
 /* What vayudrit_read_graph returns, too: the number plus 256 times the line, counted from 1, or 0 where no line applies. */
-#define VAYUDRIT_NUMBER(r) ((r) % 256)
-#define VAYUDRIT_LINE(r) ((r) / 256)
 #define VAYUDRIT_REFUSED_SHAPE 10  /* a line of no known shape */
 #define VAYUDRIT_REFUSED_ORDER 11  /* a second p line, an e line before the p line, or no p line at the end */
 #define VAYUDRIT_REFUSED_LIMITS 12 /* vertices not 1 to 20, or edges not 1 to 4,096 */
@@ -79,6 +81,12 @@ extern "C" {
 #define VAYUDRIT_REFUSED_COUNT 14  /* the number of e lines is not the declared one */
 #define VAYUDRIT_REFUSED_LONG 15   /* the text is above 32,768 bytes */
 #define VAYUDRIT_REFUSED_EDGES 16  /* the 65th different edge */
+
+/* A refusal taken apart: its number, 0 where nothing was refused; for VAYUDRIT_REFUSED_PAIR the illegal entry; and for
+   vayudrit_read_graph the line. */
+#define VAYUDRIT_NUMBER(r) ((r) % 256)
+#define VAYUDRIT_ENTRY(r) ((r) / 256)
+#define VAYUDRIT_LINE(r) ((r) / 256)
 
 /* Why a search stopped: word 0 of its answer. */
 #define VAYUDRIT_ENDED 0 /* the place is 3^n: every point was examined */

@@ -321,8 +321,15 @@ static void search_refusals(void)
         expect(calls[k].what,
                SEARCH(calls[k].n, calls[k].m, calls[k].table, calls[k].record, calls[k].budget, calls[k].list, calls[k].answer),
                calls[k].refusal);
+    for (size_t k = 0; k < 6; k++) {
+        table[16 * k + 8] ^= 2;
+        expect("a low bit alone", SEARCH(2, 1, 96, 360, 1, 8, 40), 3 + 256 * k);
+        table[80] ^= 4;
+        expect("a low bit alone, and a high bit above m in the last entry", SEARCH(2, 1, 96, 360, 1, 8, 40), 3 + 256 * k);
+        table[80] ^= 4;
+        table[16 * k + 8] ^= 2;
+    }
     table[8] ^= 2;
-    expect("a low bit alone", SEARCH(2, 1, 96, 360, 1, 8, 40), 3);
     expect("a low bit alone, and a record of another length", SEARCH(2, 1, 96, 8, 1, 8, 40), 2);
     table[8] ^= 2;
     for (size_t i = 0; i < 8 * VAYUDRIT_RECORD_WORDS; i++) {
@@ -347,6 +354,18 @@ static void other_refusals(void)
     expect("check 2", vayudrit_check(2, 1, differences, 11), 2);
     differences[0] |= 4;
     expect("check 3", vayudrit_check(2, 1, differences, 12), 3);
+    differences[10] |= 4;
+    expect("check 3, first and last entry", vayudrit_check(2, 1, differences, 12), 3);
+    differences[0] &= ~(uint64_t)4;
+    expect("check 3, last entry", vayudrit_check(2, 1, differences, 12), 3 + 256 * 5);
+    expect("differences 3, last entry", vayudrit_differences(2, 1, differences, 12, w, 12), 3 + 256 * 5);
+    expect("coefficients 3, last entry", vayudrit_coefficients(2, 1, differences, 12, w, 12), 3 + 256 * 5);
+    expect("open 3, last entry", vayudrit_open(2, 1, differences, 12, 10, w, 45), 3 + 256 * 5);
+    expect("evaluate 3, last entry", vayudrit_evaluate(2, 1, differences, 12, 9, w, 2), 3 + 256 * 5);
+    expect("the number of a refusal", VAYUDRIT_NUMBER(vayudrit_check(2, 1, differences, 12)), VAYUDRIT_REFUSED_PAIR);
+    expect("the entry of a refusal", VAYUDRIT_ENTRY(vayudrit_check(2, 1, differences, 12)), 5);
+    differences[10] &= ~(uint64_t)4;
+    differences[0] |= 4;
     expect("differences 3", vayudrit_differences(2, 1, differences, 12, w, 12), 3);
     expect("differences 2 before 3", vayudrit_differences(2, 1, differences, 12, w, 11), 2);
     expect("coefficients 3", vayudrit_coefficients(2, 1, differences, 12, w, 12), 3);

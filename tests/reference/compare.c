@@ -238,7 +238,7 @@ static uint64_t compare_call(const struct call *c) {
         free(expected[i]);
     }
     agreed++;
-    results[c->op][wanted]++;
+    results[c->op][wanted % 256]++;
     return wanted;
 }
 
@@ -392,6 +392,22 @@ static void damage_record(struct call *c, size_t k) {
         set_word(c, 1, k, old ^ (uint64_t)1 << below(64));
 }
 
+/* Illegal pairs at the first, a middle or the last entry of the table, or at two of them: a low bit
+ * without its high bit, or a bit from m upward. */
+static void damage_entries(struct call *c) {
+    size_t entries = bytes_lent(c, 0) / 16;
+    for (uint64_t count = 1 + below(2); count > 0; count--) {
+        size_t k = (size_t)ONE_OF(0, entries - 1, below(entries), below(entries));
+        unsigned m = c->m >= 1 && c->m < 64 ? (unsigned)c->m : 63;
+        uint64_t bit = (uint64_t)1 << below(m);
+        if (one_in(2)) {
+            set_word(c, 0, 2 * k, word(c, 0, 2 * k) & ~bit);
+            set_word(c, 0, 2 * k + 1, word(c, 0, 2 * k + 1) | bit);
+        } else
+            set_word(c, 0, 2 * k, word(c, 0, 2 * k) | (uint64_t)1 << ONE_OF(m, 63, m + below(64 - m)));
+    }
+}
+
 /* One fault, or what may be one. */
 static void damage(struct call *c) {
     switch (below(c->op == SEARCH ? 10 : 6)) {
@@ -399,9 +415,12 @@ static void damage(struct call *c) {
     case 1: damage_size(&c->m, 64); break;
     case 2: damage_length(c, (unsigned)below(lent_count(c))); break;
     case 3:
-    case 4:
         if (lent_of(c, 0)->role == TABLE && bytes_lent(c, 0) >= 16)
             damage_pair(c, 0, 2 * (size_t)below(bytes_lent(c, 0) / 16));
+        break;
+    case 4:
+        if (lent_of(c, 0)->role == TABLE && bytes_lent(c, 0) >= 16)
+            damage_entries(c);
         break;
     case 5: c->number = c->op == SEARCH ? 0 : random_number(c); break;
     case 6: c->len[2] = 0; break;

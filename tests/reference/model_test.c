@@ -100,14 +100,19 @@ static void legality(void) {
     EXPECT(reference_check(1, 0, words, 6) == 1 && reference_check(20, 65, words, 462) == 1);
     EXPECT(reference_check(1, 1, words, 5) == 2 && reference_check(1, 1, words, 7) == 2);
     words[3] = 4; /* a low bit without its high bit */
-    EXPECT(reference_check(1, 3, words, 6) == 3);
+    EXPECT(reference_check(1, 3, words, 6) == 3 + 256);
     words[2] = 4;
-    EXPECT(reference_check(1, 3, words, 6) == 0 && reference_check(1, 2, words, 6) == 3);
+    EXPECT(reference_check(1, 3, words, 6) == 0 && reference_check(1, 2, words, 6) == 3 + 256);
     words[2] = words[3] = UINT64_MAX;
-    EXPECT(reference_check(1, 64, words, 6) == 0 && reference_check(1, 63, words, 6) == 3);
+    EXPECT(reference_check(1, 64, words, 6) == 0 && reference_check(1, 63, words, 6) == 3 + 256);
     words[2] = (uint64_t)1 << 63;
     words[3] = 0;
-    EXPECT(reference_check(1, 64, words, 6) == 0 && reference_check(1, 63, words, 6) == 3);
+    EXPECT(reference_check(1, 64, words, 6) == 0 && reference_check(1, 63, words, 6) == 3 + 256);
+    words[5] = 1; /* of two illegal entries the first is told */
+    EXPECT(reference_check(1, 64, words, 6) == 3 + 512 && reference_check(1, 63, words, 6) == 3 + 256);
+    words[0] = 1;
+    words[1] = 3;
+    EXPECT(reference_check(1, 64, words, 6) == 3);
 }
 
 static void places_points_and_positions(void) {
@@ -347,7 +352,7 @@ static void refusal_order(void) {
     EXPECT(SEARCH(2, 11, 45, 0, 0, 5) == 2);
     EXPECT(SEARCH(2, 12, 44, 0, 0, 5) == 2);
     EXPECT(SEARCH(2, 12, 45, 0, 0, 6) == 2);
-    EXPECT(SEARCH(2, 12, 45, 0, 0, 5) == 3);
+    EXPECT(SEARCH(2, 12, 45, 0, 0, 5) == 3 + 256);
     EXPECT(memcmp(&kept, &d, sizeof d) == 0 && memcmp(&before, &r, sizeof r) == 0);
     d = differences(&c);
     EXPECT(SEARCH(2, 12, 45, 0, 0, 5) == 5);

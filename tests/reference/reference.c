@@ -156,10 +156,11 @@ static int bad_size(uint64_t n, uint64_t m) { return bad_n(n) || m < 1 || m > MO
 /* "A word table is 2N words" */
 static int bad_table_length(uint64_t n, size_t length) { return length != 2 * monomials(n); }
 
-/* "3: an illegal pair in a table" */
-static int illegal_table(uint64_t n, uint64_t m, const uint64_t *table) {
+/* "3: an illegal pair in a table", and C-13: "3 carries the smallest illegal monomial's number, the
+ * constant being 0; the harness gets 3 plus 256 times that number" */
+static uint64_t illegal_table(uint64_t n, uint64_t m, const uint64_t *table) {
     for (size_t k = 0; k < monomials(n); k++)
-        if (!legal_pair(m, table + 2 * k)) return 1;
+        if (!legal_pair(m, table + 2 * k)) return 3 + 256 * (uint64_t)k;
     return 0;
 }
 
@@ -183,7 +184,7 @@ uint64_t reference_pack(uint64_t n, uint64_t m, const int8_t *rows, size_t rows_
 uint64_t reference_check(uint64_t n, uint64_t m, const uint64_t *table, size_t table_len) {
     if (bad_size(n, m)) return 1;
     if (bad_table_length(n, table_len)) return 2;
-    return illegal_table(n, m, table) ? 3 : 0;
+    return illegal_table(n, m, table);
 }
 
 /* Forwards, from coefficients C to differences: "constant: C; xi: Ci + Cii - C(i-1,i); xi*xi:
@@ -214,7 +215,7 @@ static uint64_t turn_table(uint64_t n, uint64_t m, const uint64_t *from, size_t 
     struct system given, turned;
     if (bad_size(n, m)) return 1;
     if (bad_table_length(n, from_len) || bad_table_length(n, to_len)) return 2;
-    if (illegal_table(n, m, from)) return 3;
+    if (illegal_table(n, m, from)) return illegal_table(n, m, from);
     take_table(n, m, from, &given);
     turn_system(&given, back, &turned);
     put_table(&turned, to);
@@ -274,7 +275,7 @@ uint64_t reference_evaluate(uint64_t n, uint64_t m, const uint64_t *coefficients
     int trit[MOST_EQUATIONS];
     if (bad_size(n, m)) return 1;
     if (bad_table_length(n, coefficients_len) || value_len != 2) return 2;
-    if (illegal_table(n, m, coefficients)) return 3;
+    if (illegal_table(n, m, coefficients)) return illegal_table(n, m, coefficients);
     if (point >= power_of_three((unsigned)n)) return 4;
     take_table(n, m, coefficients, &s);
     system_at(&s, point, trit);
@@ -329,7 +330,7 @@ uint64_t reference_open(uint64_t n, uint64_t m, const uint64_t *table, size_t ta
     struct system s;
     if (bad_size(n, m)) return 1;
     if (bad_table_length(n, table_len) || record_len != RECORD_WORDS) return 2;
-    if (illegal_table(n, m, table)) return 3;
+    if (illegal_table(n, m, table)) return illegal_table(n, m, table);
     if (place > power_of_three((unsigned)n)) return 4; /* "a place for opening above 3^n" */
     open_table(n, m, table, &s);
     open_record(&s, place, record);
@@ -358,7 +359,7 @@ uint64_t reference_search_words(uint64_t n, uint64_t m, const uint64_t *table, s
     if (bad_size(n, m)) return 1;
     if (bad_table_length(n, table_len) || record_len != RECORD_WORDS || answer_len != ANSWER_WORDS)
         return 2;
-    if (illegal_table(n, m, table)) return 3;
+    if (illegal_table(n, m, table)) return illegal_table(n, m, table);
     open_table(n, m, table, &s);
     if (bad_record(&s, record)) return 5;
     if (budget == 0) return 6;

@@ -3,7 +3,7 @@
  * arithmetic on small integers: a system is evaluated from scratch at each point, and a
  * record is worked out from the document's words about it, never by walking.
  *
- * Every operation gives back a refusal number, or 0. "A refusal gives its number alone ... and
+ * Every operation gives back a refusal number, or 0; of an illegal pair 3 plus 256 times its entry. "A refusal gives its number alone ... and
  * alters nothing lent. Order: 1, 2, 3, 4, 5, 6, 7, each over all arguments before the next."
  * Lengths count elements of the pointed-at type. */
 #ifndef REFERENCE_H

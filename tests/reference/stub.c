@@ -94,7 +94,7 @@ uint64_t vayudrit_search(uint64_t n, uint64_t m, const uint8_t *table, size_t ta
     if (broken(REFUSAL_CHANGES_A_BYTE) && refusal == 6) answer[7] ^= 1;
     if (broken(PAIRS_BEFORE_LENGTHS) && refusal == 2
         && reference_search(n, m, table, table_len, record, record_len, 0, list, list_len,
-                            other_answer, 40) == 3)
+                            other_answer, 40) % 256 == 3)
         refusal = 3;
     return refusal;
 }

@@ -116,7 +116,7 @@ checked n m t w h =
     let f : legalFront m t ≡ countOf n = front-whole m (countOf n) t (h .size) .1 (h .legal) in
     sized-next n m (long n t (paired n m t verdict.Done)) w
     ∙ refuse-none (not (eqb (length t) (2 * countOf n))) refusal.Length (paired n m t verdict.Done) (ap not (eq-eqb _ _ (h .size)))
-    ∙ refuse-none (ltb (legalFront m t) (countOf n)) refusal.Pair verdict.Done (le-ltb (legalFront m t) (countOf n) (omega (arith, f)))
+    ∙ refuse-none (ltb (legalFront m t) (countOf n)) (refusal.Pair (legalFront m t)) verdict.Done (le-ltb (legalFront m t) (countOf n) (omega (arith, f)))
 
 module _ (n m : ℕ) (rows : List ℤ) (c d : List ℕ) (ok : packVerdict n m rows c ≡ verdict.Done) (room : length d ≡ 2 * countOf n) where
   abbrev made : List ℕ

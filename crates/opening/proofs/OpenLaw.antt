@@ -43,7 +43,7 @@ module _ (n m : ℕ) (t : List ℕ) (ok : checkedOf n m t ≡ verdict.Done) wher
   table-long = eqb-true _ _ (not-false _ (done-test wrong refusal.Length (paired n m t verdict.Done) lengths))
 
   fronts : countOf n ≤ legalFront m t
-  fronts = ltb-false _ _ (done-test bad refusal.Pair verdict.Done (done-next wrong refusal.Length (paired n m t verdict.Done) lengths))
+  fronts = ltb-false _ _ (done-test bad (refusal.Pair (legalFront m t)) verdict.Done (done-next wrong refusal.Length (paired n m t verdict.Done) lengths))
 
   pub table-legal : Table n m t
   table-legal =
@@ -69,7 +69,7 @@ module _ (n m : ℕ) (t : List ℕ) (ok : checkedOf n m t ≡ verdict.Done) wher
       sized-next n m (long n t (long n c (paired n m t verdict.Done))) within
       ∙ refuse-none wrong refusal.Length (long n c (paired n m t verdict.Done)) (ap not (eq-eqb _ _ table-long))
       ∙ refuse-none (not (eqb (length c) (2 * countOf n))) refusal.Length (paired n m t verdict.Done) (ap not (eq-eqb _ _ e))
-      ∙ refuse-none bad refusal.Pair verdict.Done (le-ltb _ _ fronts)
+      ∙ refuse-none bad (refusal.Pair (legalFront m t)) verdict.Done (le-ltb _ _ fronts)
 
 -- the record, from its parts
 pub opened-is : (n m : ℕ) (t : List ℕ) (p : ℕ) (v : Vector) (s : List Vector) (x : ℕ → ℕ)

@@ -26,7 +26,7 @@ checked-next n m t v e =
     let e2 = done-next (not (eqb (length t) (2 * countOf n))) refusal.Length (paired n m t verdict.Done) e1 in
     sized-next n m (long n t (paired n m t v)) w
     ∙ refuse-none (not (eqb (length t) (2 * countOf n))) refusal.Length (paired n m t v) (done-test (not (eqb (length t) (2 * countOf n))) refusal.Length (paired n m t verdict.Done) e1)
-    ∙ refuse-none (ltb (legalFront m t) (countOf n)) refusal.Pair v (done-test (ltb (legalFront m t) (countOf n)) refusal.Pair verdict.Done e2)
+    ∙ refuse-none (ltb (legalFront m t) (countOf n)) (refusal.Pair (legalFront m t)) v (done-test (ltb (legalFront m t) (countOf n)) (refusal.Pair (legalFront m t)) verdict.Done e2)
 
 -- a table that is refused is refused whatever is asked next
 pub refused-table : (n m : ℕ) (t : List ℕ) (f : Refusal) (v : Verdict) → checkedOf n m t ≡ verdict.Refused f
@@ -34,7 +34,7 @@ pub refused-table : (n m : ℕ) (t : List ℕ) (f : Refusal) (v : Verdict) → c
 refused-table n m t f v e =
     refused-next (ltb n 1) refusal.Size f _ _ e λ e. refused-next (ltb 20 n) refusal.Size f _ _ e λ e. refused-next (ltb m 1) refusal.Size f _ _ e λ e.
     refused-next (ltb 64 m) refusal.Size f _ _ e λ e. refused-next (not (eqb (length t) (2 * countOf n))) refusal.Length f _ _ e λ e.
-    refused-last (ltb (legalFront m t) (countOf n)) refusal.Pair f v e
+    refused-last (ltb (legalFront m t) (countOf n)) (refusal.Pair (legalFront m t)) f v e
 
 -- what opening answers, by the verdict on the table
 pub open-refused : (n m : ℕ) (t : List ℕ) (p : ℕ) (f : Refusal) → checkedOf n m t ≡ verdict.Refused f → refusedOpen f ≡ openOf n m t p

@@ -53,7 +53,7 @@ table-checked : (n m : ℕ) (t : List ℕ) → Within n m → Table n m t → ch
 table-checked n m t w g =
     sized-next n m (long n t (paired n m t verdict.Done)) w
     ∙ refuse-none (not (eqb (length t) (2 * countOf n))) refusal.Length (paired n m t verdict.Done) (ap not (eq-eqb _ _ (g .size)))
-    ∙ refuse-none (ltb (legalFront m t) (countOf n)) refusal.Pair verdict.Done (legal-front n m t g)
+    ∙ refuse-none (ltb (legalFront m t) (countOf n)) (refusal.Pair (legalFront m t)) verdict.Done (legal-front n m t g)
 
 module _ (n m : ℕ) (words old : List ℕ) (h : Startable n m words old) where
   limits : Within n m
@@ -64,7 +64,7 @@ module _ (n m : ℕ) (words old : List ℕ) (h : Startable n m words old) where
       sized-next n m (long n words (long n old (paired n m words verdict.Done))) limits
       ∙ refuse-none (not (eqb (length words) (2 * countOf n))) refusal.Length (long n old (paired n m words verdict.Done)) (ap not (eq-eqb _ _ (h .legal .size)))
       ∙ refuse-none (not (eqb (length old) (2 * countOf n))) refusal.Length (paired n m words verdict.Done) (ap not (eq-eqb _ _ (h .room)))
-      ∙ refuse-none (ltb (legalFront m words) (countOf n)) refusal.Pair verdict.Done (legal-front n m words (h .legal))
+      ∙ refuse-none (ltb (legalFront m words) (countOf n)) (refusal.Pair (legalFront m words)) verdict.Done (legal-front n m words (h .legal))
 
   -- the differences are written
   pub table-is : (t : List ℕ) → t ≡ differencesAfter n m words old → t ≡ differencesOf n m words

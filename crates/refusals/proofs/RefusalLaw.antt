@@ -19,7 +19,7 @@ use Rattle.refusals.specs.Refusal.{numberOf, refuse, sizedUnknowns, size
 pub number-pos : (f : Refusal) → numberOf f ≡ 0 → ⊥
 number-pos refusal.Size e = omega (arith, e)
 number-pos refusal.Length e = omega (arith, e)
-number-pos refusal.Pair e = omega (arith, e)
+number-pos (refusal.Pair k) e = omega (arith, e)
 number-pos refusal.Range e = omega (arith, e)
 number-pos refusal.Record e = omega (arith, e)
 number-pos refusal.Budget e = omega (arith, e)
@@ -31,23 +31,6 @@ number-pos refusal.Vertex e = omega (arith, e)
 number-pos refusal.Count e = omega (arith, e)
 number-pos refusal.Long e = omega (arith, e)
 number-pos refusal.Edges e = omega (arith, e)
-
--- and every number is a byte
-pub number-byte : (f : Refusal) → numberOf f < 256
-number-byte refusal.Size = omega arith
-number-byte refusal.Length = omega arith
-number-byte refusal.Pair = omega arith
-number-byte refusal.Range = omega arith
-number-byte refusal.Record = omega arith
-number-byte refusal.Budget = omega arith
-number-byte refusal.List = omega arith
-number-byte refusal.Shape = omega arith
-number-byte refusal.Order = omega arith
-number-byte refusal.Limits = omega arith
-number-byte refusal.Vertex = omega arith
-number-byte refusal.Count = omega arith
-number-byte refusal.Long = omega arith
-number-byte refusal.Edges = omega arith
 
 never : (r : Refusal) → Refused r ≡ Done → ⊥
 never r e = let z : _≡_ {A = ℕ} 0 1 = cc in omega arith

@@ -1,6 +1,6 @@
--- Document 01's refusal numbers, one for each case; and what a refusal leaves of what was lent.
+-- Document 01's refusal numbers, one for each case, an illegal pair's with 256 times the number of its entry; and what a refusal leaves of what was lent.
 use mathlib.Core.Bool.{Bool}
-use Prim.Native.Nat.{ℕ}
+use Prim.Native.Nat.{ℕ, _+_, _*_}
 use lib.Dec.{ltb}
 use Rattle.refusals.specs.declared.Refusal.{Refusal}
 use Rattle.refusals.specs.declared.Refusal.the-variants.{Size, Length, Pair, Range, Record, Budget, List, Shape, Order, Limits, Vertex, Count, Long, Edges}
@@ -12,7 +12,7 @@ use Rattle.refusals.specs.Limits.{mostUnknowns, mostEquations}
 abbrev pub numberOf : Refusal → ℕ
 numberOf Size = 1
 numberOf Length = 2
-numberOf Pair = 3
+numberOf (Pair k) = 3 + 256 * k
 numberOf Range = 4
 numberOf Record = 5
 numberOf Budget = 6

@@ -1,6 +1,7 @@
 // Document 01's limits, and why an operation refuses: one case for each of its numbers.
 ghost use mathlib.Core.Path.{_≡_};
 ghost use mathlib.Core.Logic.{_↔_};
+ghost use Prim.Native.Nat.{_<_, _^_};
 ghost use mathlib.Core.Bool.{true};
 ghost use Rattle.refusals.specs.Limits.{Unknowns, Within};
 ghost use Rattle.refusals.specs.Refusal.{numberOf, codeOf};
@@ -53,8 +54,8 @@ pub enum Refusal {
     Size,
     // A table or row table, read or to be written, is not of the exact length.
     Length,
-    // A table holds an illegal pair.
-    Pair,
+    // A table holds an illegal pair: the number of the first entry that is none, the constant being 0.
+    Pair(u32),
     // A place, a point or a balanced number lies outside its range.
     Range,
     // A record is not the one that opening at its place gives.
@@ -79,14 +80,14 @@ pub enum Refusal {
     Edges,
 }
 
-// Document 01's number for it.
+// Document 01's number for it; an illegal pair's with 256 times its entry. It leaves room above it for a line.
 pub fn number(r: Refusal) -> u64
-    ensures { λ k. ⌜ k ≡ numberOf r ⌝ }
+    ensures { λ k. ⌜ (k ≡ numberOf r) × (k < 2 ^ 40) ⌝ }
 {
     match r {
         Refusal::Size => 1,
         Refusal::Length => 2,
-        Refusal::Pair => 3,
+        Refusal::Pair(k) => 3 + 256 * (k as u64),
         Refusal::Range => 4,
         Refusal::Record => 5,
         Refusal::Budget => 6,

@@ -78,13 +78,13 @@ module _ (n m : ℕ) (t : List ℕ) (r : Record) (b c : ℕ) where
       let pair = ltb (legalFront m t) (countOf n) in
       let e1 = sized-done n m (long n t (paired n m t v)) e in
       let e2 = done-next size refusal.Length (paired n m t v) e1 in
-      let e3 = done-next pair refusal.Pair v e2 in
+      let e3 = done-next pair (refusal.Pair (legalFront m t)) v e2 in
       let e4 = done-next (not (fits n m t r)) refusal.Record (refuse (eqb b 0) refusal.Budget (refuse (eqb c 0) refusal.List verdict.Done)) e3 in
       let e5 = done-next (eqb b 0) refusal.Budget (refuse (eqb c 0) refusal.List verdict.Done) e4 in
       record {
         checked = sized-next n m (long n t (paired n m t verdict.Done)) (sized-within n m (long n t (paired n m t v)) e)
             ∙ refuse-none size refusal.Length (paired n m t verdict.Done) (done-test size refusal.Length (paired n m t v) e1)
-            ∙ refuse-none pair refusal.Pair verdict.Done (done-test pair refusal.Pair v e2);
+            ∙ refuse-none pair (refusal.Pair (legalFront m t)) verdict.Done (done-test pair (refusal.Pair (legalFront m t)) v e2);
         own = not-false (fits n m t r) (done-test (not (fits n m t r)) refusal.Record (refuse (eqb b 0) refusal.Budget (refuse (eqb c 0) refusal.List verdict.Done)) e3);
         budget = eqb-false b 0 (done-test (eqb b 0) refusal.Budget (refuse (eqb c 0) refusal.List verdict.Done) e4);
         room = eqb-false c 0 (done-test (eqb c 0) refusal.List verdict.Done e5);

@@ -1,24 +1,24 @@
 -- The tests of the code, one after the other, are document 01's order of refusals.
-use mathlib.Core.Path.{_≡_, refl, sym, ap, _∙_}
+use mathlib.Core.Path.{_≡_, refl, sym, ap, _∙_, subst}
 use mathlib.Core.Bool.{Bool, true, false, not}
 use mathlib.Core.List.{List}
 use mathlib.Core.Logic.{_↔_}
-use Prim.Native.Nat.{ℕ, _*_, _≤_, _<_}
+use Prim.Native.Nat.{ℕ, _+_, _*_, _≤_, _<_}
 use native.Mathlib.Omega.{arith}
 use lib.Dec.{ltb, eqb}
 use lib.ListN.{length}
-use borrow.Author.Tests.{lt-ltb, le-ltb, eq-eqb, ne-eqb, ltb-false, eqb-true, not-false}
+use borrow.Author.Tests.{lt-ltb, le-ltb, eq-eqb, ne-eqb, ltb-true, ltb-false, eqb-true, not-false}
 use Rattle.refusals.specs.declared.Refusal.{Refusal}
 use Rattle.refusals.specs.declared.Refusal.the-variants.{Size, Length, Pair}
 use Rattle.refusals.specs.declared.Verdict.{Verdict}
 use Rattle.refusals.specs.declared.Verdict.the-variants.{Done, Refused}
 use Rattle.refusals.specs.Limits.{Within}
-use Rattle.refusals.specs.Refusal.{refuse, sized}
+use Rattle.refusals.specs.Refusal.{codeOf, refuse, sized}
 use Rattle.refusals.proofs.RefusalLaw.{done-test, done-next, refuse-none, sized-within, sized-next, sized-done, refused-next, refused-last}
 use Rattle.tables.specs.Monomials.{countOf}
 use Rattle.tables.specs.Words.{legalFront, Table}
-use Rattle.tables.specs.Answers.{long, paired, checkedOf, Accepted, copyVerdict}
-use Rattle.tables.proofs.WordLaw.{front-of, front-whole}
+use Rattle.tables.specs.Answers.{long, paired, checkedOf, Accepted, FirstIllegal, copyVerdict}
+use Rattle.tables.proofs.WordLaw.{front-is, front-of, front-whole}
 
 -- refusal 2
 pub long-refused : (n : ℕ) (t : List ℕ) (v : Verdict) → (length t ≡ 2 * countOf n → ⊥) → long n t v ≡ Refused Length
@@ -28,7 +28,7 @@ pub long-passed : (n : ℕ) (t : List ℕ) (v : Verdict) → length t ≡ 2 * co
 long-passed n t v e = rw (eq-eqb (length t) (2 * countOf n) e)
 
 -- refusal 3
-pub pair-refused : (n m : ℕ) (t : List ℕ) (v : Verdict) → legalFront m t < countOf n → paired n m t v ≡ Refused Pair
+pub pair-refused : (n m : ℕ) (t : List ℕ) (v : Verdict) → legalFront m t < countOf n → paired n m t v ≡ Refused (Pair (legalFront m t))
 pair-refused n m t v h = rw (lt-ltb (legalFront m t) (countOf n) h)
 
 pub pair-passed : (n m : ℕ) (t : List ℕ) (v : Verdict) → countOf n ≤ legalFront m t → paired n m t v ≡ v
@@ -65,8 +65,8 @@ module _ (n m : ℕ) (from to : List ℕ) (w : Within n m) (k : ℕ) (count : k 
           sizes _ ∙ long-passed n from (long n to (paired n m from Done)) read-is
           ∙ long-passed n to (paired n m from Done) (written ∙ ap (λ (x : ℕ). 2 * x) count)
 
-      pub copy-pair : (f : ℕ) → f ≡ legalFront m from → f < k → copyVerdict n m from to ≡ Refused Pair
-      copy-pair f e h = lengths ∙ pair-refused n m from Done (omega arith)
+      pub copy-pair : (f : ℕ) → f ≡ legalFront m from → f < k → copyVerdict n m from to ≡ Refused (Pair f)
+      copy-pair f e h = lengths ∙ pair-refused n m from Done (omega arith) ∙ ap (λ (x : ℕ). Refused (Pair x)) (sym e)
 
       pub copy-done : (f : ℕ) → f ≡ legalFront m from → k ≤ f → copyVerdict n m from to ≡ Done
       copy-done f e h = lengths ∙ pair-passed n m from Done (omega arith)
@@ -82,7 +82,7 @@ long-done n t v e =
 
 pub paired-done : (n m : ℕ) (t : List ℕ) (v : Verdict) → length t ≡ 2 * countOf n → paired n m t v ≡ Done → Table n m t × (v ≡ Done)
 paired-done n m t v l e =
-    let a = refuse-done (ltb (legalFront m t) (countOf n)) Pair v e in
+    let a = refuse-done (ltb (legalFront m t) (countOf n)) (Pair (legalFront m t)) v e in
     let b = ltb-false (legalFront m t) (countOf n) (a .0) in
     let f = front-of m (countOf n) t l in
     (record { size = l; legal = λ k h. f .below k (omega arith) }, a .1)
@@ -119,6 +119,27 @@ accepted-iff n m t = (
       ∙ pair-passed n m t Done (omega arith)),
 )
 
+-- refused with 3 and an entry's number exactly if that entry is the first illegal one
+pub entry-told : (n m : ℕ) (t : List ℕ) (k : ℕ) → Within n m → length t ≡ 2 * countOf n → (checkedOf n m t ≡ Refused (Pair k)) ↔ FirstIllegal n m t k
+entry-told n m t k w l = (
+  (λ e.
+      let a : paired n m t Done ≡ Refused (Pair k) = sym (here (paired n m t Done)) ∙ e in
+      let f = front-of m (countOf n) t l in
+      let p = pair-is (ltb (legalFront m t) (countOf n)) (legalFront m t) k a in
+      let i = ltb-true (legalFront m t) (countOf n) (p .0) in
+      subst (FirstIllegal n m t) (p .1) (record { inside = i; before = f .below; itself = f .stop i })),
+  (λ f.
+      let e : legalFront m t ≡ k = front-is m t (countOf n) k l (omega (arith, f .inside)) (f .before) (λ h. f .itself) in
+      here (paired n m t Done) ∙ pair-refused n m t Done (omega (arith, f .inside)) ∙ ap (λ (x : ℕ). Refused (Pair x)) e),
+)
+  where
+    here : (v : Verdict) → sized n m (long n t v) ≡ v
+    here v = sized-next n m (long n t v) w ∙ long-passed n t v l
+
+    pair-is : (b : Bool) (i k : ℕ) → refuse b (Pair i) Done ≡ Refused (Pair k) → (b ≡ true) × (i ≡ k)
+    pair-is true i k e = let q : 3 + 256 * i ≡ 3 + 256 * k = ap codeOf e in (refl, omega arith)
+    pair-is false i k e = let q : 0 ≡ 3 + 256 * k = ap codeOf e in absurd (omega arith)
+
 refuse-then : (b : Bool) (s r : Refusal) (f : Verdict → Verdict) (v : Verdict) → (f Done ≡ Refused r → f v ≡ Refused r) → refuse b s (f Done) ≡ Refused r → refuse b s (f v) ≡ Refused r
 refuse-then b s r f v h e = refused-next b s r (f Done) (f v) e h
 
@@ -136,7 +157,7 @@ checked-refused n m t r v =
     (refuse-then (ltb m 1) Size r (λ u. refuse (ltb 64 m) Size (long n t (paired n m t u))) v
     (refuse-then (ltb 64 m) Size r (λ u. long n t (paired n m t u)) v
     (refuse-then (not (eqb (length t) (2 * countOf n))) Length r (λ u. paired n m t u) v
-    (refused-last (ltb (legalFront m t) (countOf n)) Pair r v)))))
+    (refused-last (ltb (legalFront m t) (countOf n)) (Pair (legalFront m t)) r v)))))
 
 pub checked-passed : (n m : ℕ) (t : List ℕ) (v : Verdict) → checkedOf n m t ≡ Done → then n m t v ≡ v
 checked-passed n m t v =
@@ -145,4 +166,4 @@ checked-passed n m t v =
     (refuse-pass (ltb m 1) Size (λ u. refuse (ltb 64 m) Size (long n t (paired n m t u))) v
     (refuse-pass (ltb 64 m) Size (λ u. long n t (paired n m t u)) v
     (refuse-pass (not (eqb (length t) (2 * countOf n))) Length (λ u. paired n m t u) v
-    (λ e. refuse-none (ltb (legalFront m t) (countOf n)) Pair v (done-test (ltb (legalFront m t) (countOf n)) Pair Done e))))))
+    (λ e. refuse-none (ltb (legalFront m t) (countOf n)) (Pair (legalFront m t)) v (done-test (ltb (legalFront m t) (countOf n)) (Pair (legalFront m t)) Done e))))))

@@ -2,7 +2,7 @@
 use mathlib.Core.Path.{_≡_}
 use mathlib.Core.Bool.{not}
 use mathlib.Core.List.{List, [], _∷_}
-use Prim.Native.Nat.{ℕ, _*_, _^_}
+use Prim.Native.Nat.{ℕ, _*_, _^_, _<_}
 use lib.Dec.{eqb, ltb, leb}
 use lib.IntN.{ℤ}
 use lib.ListN.{length}
@@ -14,16 +14,17 @@ use Rattle.refusals.specs.Refusal.{numberOf, codeOf, refuse, sized, after}
 use Rattle.tables.specs.declared.Evaluated.{Evaluated}
 use Rattle.tables.specs.declared.Evaluated.the-variants as evaluated
 use Rattle.trits.specs.declared.Vector.{Vector}
+use Rattle.trits.specs.Trit.{Legal}
 use Rattle.tables.specs.Monomials.{countOf}
-use Rattle.tables.specs.Words.{Table, legalFront, packed, differencesOf, coefficientsOf, valuesAt}
+use Rattle.tables.specs.Words.{entry, Table, legalFront, packed, differencesOf, coefficientsOf, valuesAt}
 
 -- refusal 2: a table of n unknowns is not of its exact length
 abbrev pub long : ℕ → List ℕ → Verdict → Verdict
 long n t v = refuse (not (eqb (length t) (2 * countOf n))) Length v
 
--- refusal 3: an illegal pair
+-- refusal 3: an illegal pair, with the number of the first
 abbrev pub paired : ℕ → ℕ → List ℕ → Verdict → Verdict
-paired n m t v = refuse (ltb (legalFront m t) (countOf n)) Pair v
+paired n m t v = refuse (ltb (legalFront m t) (countOf n)) (Pair (legalFront m t)) v
 
 -- a word table by itself
 abbrev pub checkedOf : ℕ → ℕ → List ℕ → Verdict
@@ -33,6 +34,12 @@ checkedOf n m t = sized n m (long n t (paired n m t Done))
 pub record Accepted (n m : ℕ) (t : List ℕ) : Type 0 where
   pub sizes : Within n m
   pub table : Table n m t
+
+-- entry k of a table of n unknowns is its first illegal one
+pub record FirstIllegal (n m : ℕ) (t : List ℕ) (k : ℕ) : Type 0 where
+  pub inside : k < countOf n
+  pub before : (j : ℕ) → j < k → Legal m (entry t j)
+  pub itself : Legal m (entry t k) → ⊥
 
 -- signed rows into a table
 abbrev pub packVerdict : ℕ → ℕ → List ℤ → List ℕ → Verdict

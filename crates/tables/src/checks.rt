@@ -43,8 +43,10 @@ pub fn check_copy(n: u64, m: u64, from: &[u64], words: usize) -> Verdict
     if words != 2 * entries {
         return Verdict::Refused(Refusal::Length);
     }
-    if legal_front(m, entries, from) < entries {
-        return Verdict::Refused(Refusal::Pair);
+    let front = legal_front(m, entries, from);
+    if front < entries {
+        let number = front as u32;
+        return Verdict::Refused(Refusal::Pair(number));
     }
     Verdict::Done
 }

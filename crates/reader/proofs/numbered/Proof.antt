@@ -1,6 +1,5 @@
--- `reader::numbered` meets its contract: every number is a byte.
+-- `reader::numbered` meets its contract: above every number there is room for a line.
 use native.Mathlib.Omega.{arith}
-use Rattle.refusals.proofs.RefusalLaw.{number-byte}
 use borrow.Author.Needs.{needs}
 use Rattle.reader.proofs.numbered.Statement.{statement}
 use Rattle.reader.proofs.numbered.Tie as tie
@@ -12,7 +11,7 @@ mul-result : tie.Need-mul-result
 mul-result c = search needs
 
 add-result : tie.Need-add-result
-add-result c = omega (arith, number-byte (c .before .args .why), c .number .ensures)
+add-result c = omega (arith, c .number .ensures .1)
 
 returns : tie.Need-returns
 returns c = search needs

@@ -46,6 +46,9 @@ returns-3 c = λ to e.
 legal-front-requires : tie.Need-legal-front-requires
 legal-front-requires c κs = search needs
 
+cast-number : tie.Need-cast-number
+cast-number c = search needs
+
 returns-4 : tie.Need-returns-4
 returns-4 c = λ to e.
     let b = c .before .before .before .before in
@@ -74,5 +77,6 @@ check-copy-spec =
     mul-if3
     returns-3
     legal-front-requires
+    cast-number
     returns-4
     returns-5)
