@@ -1,16 +1,18 @@
 # shellcheck shell=bash disable=SC2154,SC2317,SC1090
-# bash shared.sh NAME ARGUMENTS: what every command does around its program: arguments, the first build, signals, what was told.
+# bash shared.sh PARENT NAME ARGUMENTS: what every command does around its program: arguments, the first build, signals, what was
+# told. PARENT is the process of commands/status.sh.
 # commands/NAME.sh has the command's own words: `name` (of the command, its program and its crate), `usage`, `meaning NUMBER LINE`.
 #
 # This shell waits. Its child looks at the arguments, builds the program where that is needed and then becomes it, with standard
 # input and output as they were given. How it ended comes back in one line on descriptor 3: the program tells it after its last
-# write to standard output was taken. Nothing told is status 1, whatever became of the child; a refusal that was told is status 77,
-# of which commands/status.sh makes the command's own.
+# write to standard output was taken. Nothing told is status 1, whatever became of the child; "ended" is 76 and a refusal 77, of
+# which commands/status.sh makes the command's own. The program does not outlive this shell, nor this shell its parent.
 set -u +o posix
 
 home=$(dirname "$(dirname "$(readlink -f "${BASH_SOURCE[0]}")")")
-. "$home/commands/$1.sh" || exit 1
-shift
+[[ $PPID == "$1" ]] || exit 1 # it was killed before it could be heard of
+. "$home/commands/$2.sh" || exit 1
+shift 2
 program=$home/target/bin/$name
 place=$home/target/commands # the lock and the logs of builds
 
@@ -22,7 +24,11 @@ say() { printf '%s: %s\n' "$name" "$*" >&2 2>/dev/null || :; }
 # A name of the user's, with nothing in it that a terminal would obey.
 shown() {
     local text=$1
-    if [[ $text == *[![:print:]]* ]]; then printf '%s' "${text@Q}"; else printf '%s' "$text"; fi
+    if [[ $text == *[!\ -~[:alnum:]]* ]]; then # letters of any script are shown as they are, and ASCII
+        local LC_ALL=C
+        text=${text@Q}
+    fi
+    printf '%s' "$text"
 }
 
 # Removes a line of progress, whoever wrote it.
@@ -30,7 +36,8 @@ wipe() { [[ ! -t 2 ]] || printf '\r\e[K' >&2 2>/dev/null || :; }
 
 # ---- in the child
 
-tell() { printf '%s\n' "$1" >&3; }
+# To the shell that waits; descriptor 3 is the caller's until the program runs.
+tell() { printf '%s\n' "$1" >&"$back"; }
 
 die() {
     say "$@"
@@ -82,6 +89,7 @@ watch_build() { # LOG
     total=$(crates_needed)
     [[ -t 2 ]] || say "building the program, which proves its $total crates first; this takes some minutes, once"
     while kill -0 "$builder" 2>/dev/null; do
+        kill -0 "$$" 2>/dev/null || { end_build && exit 1; } # nobody waits any more
         if [[ -t 2 ]]; then
             mapfile -t proved < <(sed -n 's/^rt: \([a-z0-9_]*\) proved.*/\1/p' "$1")
             printf '\r%s: building, which proves the program first: crate %d of %d%s, %s so far\e[K' "$name" \
@@ -115,7 +123,7 @@ build() {
         room=$(mktemp -d /tmp/vayudrit.XXXXXX) || die "there is no room in /tmp"
         chmod 711 "$room"
         : >"$room/began"
-        (cd "$home" && TMPDIR=$room exec setsid rt check "$name") </dev/null >"$log" 2>&1 3>&- &
+        (exec {back}>&- && cd "$home" && TMPDIR=$room exec setsid rt check "$name") </dev/null >"$log" 2>&1 &
         builder=$!
         watch_build "$log"
         wait "$builder" || { end_build; die "the program could not be built: 'rt check $name' failed; the log is $log"; }
@@ -127,16 +135,22 @@ build() {
     exec {lock}>&-
 }
 
+# The commit of the sources, where they are a repository of their own and no folder in another one.
+commit() {
+    unset GIT_DIR GIT_WORK_TREE
+    cd "$home" && [[ $(git rev-parse --show-toplevel) == "$home" ]] && git describe --tags --always --dirty=', with changes'
+}
+
 # The commit or release of the sources, and the kit that proved the program.
 version() {
-    local source sum kit
-    source=$(cd "$home" && git describe --tags --always --dirty=', with changes' 2>/dev/null) ||
+    local source sum kit built='the program is not built yet, or older than its sources'
+    source=$(commit 2>/dev/null) ||
         source=$(grep -v Format "$home/commands/release" 2>/dev/null) || source='of no known commit'
     sum=$(sed -n 's/^logic=proved .*sum=\([0-9a-f]*\).*/\1/p' "$home/target/log/$name.say" 2>/dev/null)
     kit=$(rt version 2>/dev/null) || kit=
     [[ -n $sum && $kit == *"$sum" ]] || kit="a kit with logic $sum"
-    echo "$name, Vayudrit $source"
-    if outdated; then echo 'the program is not built yet, or older than its sources'; else echo "the program was proved by $kit"; fi
+    outdated || built="the program was proved by $kit"
+    printf '%s, Vayudrit %s\n%s\n' "$name" "$source" "$built"
 }
 
 # The file named, or nothing, in `file`; --help and --version are answered here.
@@ -165,20 +179,41 @@ open_input() {
         [[ ! -t 0 ]] || say "the graph is read from the terminal; Ctrl-D ends it (--help tells more)"
         return
     fi
-    [[ -e $file ]] || die "$words: there is no such file"
+    [[ -n $file ]] || die "an empty name is that of no file"
+    [[ -e $file && ! $file -ef /dev/fd/$back ]] || die "$words: there is no such file" # the second is this shell's own
     [[ ! -d $file ]] || die "$words: this is a folder and not a file"
     [[ -r $file ]] || die "$words: the file may not be read"
     exec <"$file" || die "$words: the file could not be opened"
 }
 
-# The child, until it is the program.
+# A pipe that does not wait, as standard input or output, is opened once more, now as one that does: the program would have to ask
+# it again and again. What can't be opened stays as it is.
+make_wait() { # DESCRIPTOR
+    local self=$BASHPID info key value flags=0
+    exec {info}<"/proc/self/fdinfo/$1" || return 0
+    while read -r -u "$info" key value; do [[ $key != flags: ]] || flags=$value; done
+    exec {info}<&-
+    ((8#$flags & 8#4000)) && [[ $(readlink "/proc/$self/fd/$1") == pipe:* ]] || return 0
+    case $1 in
+    0) { exec </proc/self/fd/0; } 2>/dev/null ;;
+    1) { exec >/proc/self/fd/1; } 2>/dev/null ;;
+    esac
+    return 0
+}
+
+# The child, until it is the program, which the system kills when the shell that waits is gone; where it is gone already, the
+# program does not begin.
 become_program() {
     local file
-    take_arguments "$@"
     ((output)) || die "standard output is closed"
+    take_arguments "$@"
     open_input
     if outdated; then build; fi
-    exec "$program"
+    make_wait 0
+    make_wait 1
+    exec 3>&"$back" {back}>&-
+    # shellcheck disable=SC2016
+    exec setpriv --pdeathsig KILL sh -c '[ "$PPID" = "$0" ] && exec "$1"' "$$" "$program"
 }
 
 # ---- the shell that waits
@@ -201,7 +236,7 @@ end_child() {
 judge() { # LINE STATUS
     local refused='^refused ([0-9]+) line ([0-9]+)$' where=
     if [[ $1 == ended ]]; then
-        exit 0
+        exit 76
     elif [[ $1 =~ $refused ]]; then
         ((BASH_REMATCH[2] == 0)) || where="line ${BASH_REMATCH[2]}: "
         say "refused: $where$(meaning "${BASH_REMATCH[1]}" "${BASH_REMATCH[2]}") (${BASH_REMATCH[1]})"
@@ -215,14 +250,14 @@ judge() { # LINE STATUS
 }
 
 run_command() {
-    local in out told line status input=1 output=1
+    local in out back told line status input=1 output=1
     # a descriptor that is closed must not become that of another file
     [[ -e /dev/fd/0 ]] || { input=0 && exec </dev/null; }
     [[ -e /dev/fd/1 ]] || { output=0 && exec >/dev/null; }
     [[ -e /dev/fd/2 ]] || exec 2>/dev/null
     exec {in}<&0 {out}>&1
     trap end_child USR1 HUP TERM
-    exec {told}< <(exec 3>&1 <&"$in" >&"$out" {in}<&- {out}>&- && become_program "$@")
+    exec {told}< <(exec {back}>&1 <&"$in" >&"$out" {in}<&- {out}>&- && become_program "$@")
     exec {in}<&- {out}>&-
     wait "$!"
     status=$?

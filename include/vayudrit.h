@@ -101,7 +101,8 @@ extern "C" {
  *            It must be as vayudrit_open or an earlier search of this table left it.
  *   budget   the most points to examine, any number but 0.
  *   list     a multiple of 8 bytes, at least 8, as many as you like: one entry of 8 bytes for each zero found.
- *   answer   VAYUDRIT_ANSWER_BYTES bytes, written whole: the words stop, place, points, additions, found.
+ *   answer   VAYUDRIT_ANSWER_BYTES bytes, written whole: the words stop, place, points, additions, found. After a
+ *            refusal it is what it was: look at the return value first.
  *
  * On 0: the points from the record's place on were examined, one after the other, until the place was 3^n (ended),
  * every list entry was used (full) or the budget was used up (spent), asked in this order after each point; ended is
@@ -186,13 +187,19 @@ uint64_t vayudrit_read_graph(const uint8_t *text, size_t text_bytes, uint64_t *w
  *   uint64_t c[VAYUDRIT_TABLE_WORDS(2)], d[VAYUDRIT_TABLE_WORDS(2)], r[VAYUDRIT_RECORD_WORDS];
  *   uint8_t table[VAYUDRIT_TABLE_BYTES(2)], record[VAYUDRIT_RECORD_BYTES], answer[VAYUDRIT_ANSWER_BYTES], list[8 * 8];
  *
- *   vayudrit_pack(2, 1, rows, 6, c, VAYUDRIT_TABLE_WORDS(2));
- *   vayudrit_differences(2, 1, c, VAYUDRIT_TABLE_WORDS(2), d, VAYUDRIT_TABLE_WORDS(2));
- *   vayudrit_open(2, 1, d, VAYUDRIT_TABLE_WORDS(2), 0, r, VAYUDRIT_RECORD_WORDS);
+ *   if (vayudrit_pack(2, 1, rows, 6, c, VAYUDRIT_TABLE_WORDS(2)) != VAYUDRIT_DONE)
+ *       return 1;
+ *   if (vayudrit_differences(2, 1, c, VAYUDRIT_TABLE_WORDS(2), d, VAYUDRIT_TABLE_WORDS(2)) != VAYUDRIT_DONE)
+ *       return 1;
+ *   if (vayudrit_open(2, 1, d, VAYUDRIT_TABLE_WORDS(2), 0, r, VAYUDRIT_RECORD_WORDS) != VAYUDRIT_DONE)
+ *       return 1;
  *   .. put the words of d into table and those of r into record, the lowest byte first ..
- *   do
- *       vayudrit_search(2, 1, table, sizeof table, record, sizeof record, 4, list, sizeof list, answer, sizeof answer);
- *   while (answer[0] != VAYUDRIT_ENDED);
+ *   do {
+ *       if (vayudrit_search(2, 1, table, sizeof table, record, sizeof record, 4, list, sizeof list, answer,
+ *                           sizeof answer) != VAYUDRIT_DONE)
+ *           return 1;
+ *       .. take the entries of list, as many as word 4 of answer says ..
+ *   } while (answer[0] != VAYUDRIT_ENDED);
  *
  * lists the points 1, 2, 5, then 3, 7, then 6: with a budget of 4 points it takes three calls.
  *

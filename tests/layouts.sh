@@ -65,6 +65,10 @@ gives 1 'one file at a time' script examples/triangle.col examples/full4.col
 gives 1 'no such file' script "$out/missing"
 gives 1 'no such file' script $'none\e[31m'
 ! grep -q $'\e' "$out/stderr" || fail 'a control character of a name is sent to the terminal'
+for locale in C C.UTF-8; do # U+202E, from which on a terminal writes backwards
+    gives 1 "'a.342.200.256b': there is no such file" env LC_ALL="$locale" ./layouts $'a\342\200\256b'
+done
+gives 1 '^layouts: an empty name' script ''
 gives 1 'folder' script examples
 gives 0 '' script -- examples/full4.col
 dash() { ./layouts "$@" - <examples/full4.col; }
@@ -89,6 +93,18 @@ gives 1 'no such file' other_shell "$out/missing"
 starved() { (ulimit -v "$1" && ./layouts examples/full4.col) >/dev/null 2>&1 || echo "$?"; }
 for ((k = 2400; k <= 6000; k += 120)); do [[ $(starved "$k") != 2 ]] || fail "status 2 with $k kB of memory"; done
 passed
+# Nor is one that has too few descriptors (with 10 or fewer a plain shell dies before it reads the script) or cannot start another.
+few_descriptors() {
+    local fd
+    for fd in /dev/fd/*; do ((${fd##*/} < 3 || ${fd##*/} == 255)) || eval "exec ${fd##*/}>&-"; done
+    ulimit -n "$1" && ./layouts examples/refused.col
+}
+for ((k = 11; k <= 20; k++)); do
+    (few_descriptors "$k") >"$out/stdout" 2>"$out/stderr" && fail "$k descriptors: status 0" || status=$?
+    ((status == 1)) || grep -q '^layouts: refused: ' "$out/stderr" || fail "$k descriptors: status $status: $(cat "$out/stderr")"
+done
+((status == 2)) || fail "status $status with 20 descriptors"
+passed
 
 # text_of BYTES: document 01's example after a comment that makes it so long
 text_of() { printf 'c %0*d\n' $(($1 - 20)) 0 && document; }
@@ -109,11 +125,36 @@ gives 1 'could not be written' full examples/triangle.col
 gives 1 'could not be written' full examples/refused.col
 closed_output() { ./layouts examples/triangle.col >&-; }
 gives 1 'standard output is closed' closed_output
+for option in --help --version; do
+    option_closed() { ./layouts "$option" >&-; }
+    gives 1 'standard output is closed' option_closed
+    option_full() { ./layouts "$option" >/dev/full; }
+    gives 1 'did not end' option_full
+done
+# The caller's own descriptors are files as good as any; those that the caller doesn't have are none, and nothing is waited for.
+on_descriptor() { eval "timeout 20 ./layouts /dev/fd/$1 $1<examples/triangle.col"; }
+for k in 3 4 9 10 11 12; do
+    gives 0 '' on_descriptor "$k"
+    cmp "$out/stdout" examples/triangle.out || fail "descriptor $k"
+done
+no_descriptor() { eval "timeout 20 ./layouts /dev/fd/$1 $1<&-"; }
+for k in {3..15}; do gives 1 'no such file' no_descriptor "$k"; done
+none_free() { ./layouts examples/triangle.col 3<&0 4<&0 5<&0 6<&0 7<&0 8<&0 9<&0; }
+gives 1 'descriptors 3 to 9' none_free
 all_closed() { ./layouts examples/triangle.col <&- >&- 2>&-; }
 gives 1 '' all_closed
 program_full() { target/bin/layouts <examples/triangle.col >/dev/full 3>"$out/told"; }
 gives 0 . program_full
 [[ ! -s $out/told ]] || fail 'something is told of an output that was not taken'
+# What no contract can say: to which descriptors the program writes.
+for file in examples/*.col; do
+    target/bin/layouts <"$file" >"$out/stdout" 2>"$out/stderr" 3>"$out/told"
+    cmp "$out/stdout" "${file%.col}.out" || fail "$file: another output of the program"
+    told=$(head -n 1 "$out/stdout")
+    [[ $told == refused* ]] || told=ended
+    [[ $(cat "$out/told") == "$told" && ! -s $out/stderr ]] || fail "$file: told is $(cat "$out/told")"
+done
+passed
 silent_refusal() { ./layouts examples/refused.col 2>&-; }
 gives 2 '' silent_refusal
 full_refusal() { ./layouts examples/refused.col 2>/dev/full; }
@@ -139,6 +180,24 @@ for ignored in 0 1; do
     ((ignored == 0)) || words='could not be written'
     for bytes in 1 13 5000 1000000; do gives 1 "$words" slow "$bytes" "$ignored"; done # closed after so many bytes
 done
+slow_program() { "$out/slow-reader" 0 0 target/bin/layouts <"$out/long" 3>"$out/told"; } # the program itself, too
+gives 0 '' slow_program
+cmp "$out/stdout" "$out/whole" || fail 'a pipe that does not wait: another output of the program'
+# The command waits without work: two seconds for its input or its reader, with pipes that do not wait.
+seconds_used() { local TIMEFORMAT='%U %S' && { time "$@" >"$out/stdout" 2>"$out/stderr"; } 2>&1; }
+waits() { # COMMAND: hundredths of a second of the processor
+    local used
+    used=$(seconds_used "$@" | awk '{ printf "%d", 100 * ($1 + $2) }')
+    ((used < 80)) || fail "$*: $used hundredths of a second of work in two seconds of waiting"
+    passed
+}
+printf 'p edge 10 1\ne 1 2\n' >"$out/text"
+late_reader() { PAUSE=2 "$out/slow-reader" 0 0 ./layouts "$out/text" </dev/null; }
+waits late_reader
+[[ $(tail -n 1 "$out/stdout") == *' found 39366 ended' ]] || fail 'a reader that comes late'
+late_writer() { { sleep 2 && document; } | PAUSE=0 "$out/slow-reader" 0 0 ./layouts; }
+waits late_writer
+[[ $(tail -n 1 "$out/stdout") == *' found 6 ended' ]] || fail 'an input that comes late'
 
 # ---- progress: on a terminal alone, on standard error alone, and gone before anything else is written ----
 printf 'p edge 16 6\ne 1 2\ne 1 3\ne 1 4\ne 2 3\ne 2 4\ne 3 4\n' >"$out/text"
@@ -188,6 +247,35 @@ with_program 1 'did not end' 'exit 2'
 with_program 1 'signal 9' 'echo vars; kill -9 $$'
 with_program 1 'signal 11' 'echo vars; kill -SEGV $$'
 with_program 1 'did not end' 'exec 3>&-; sleep 0.1; echo vars'
+# A shell that ends well is no search that ended well.
+with_program 0 '' 'echo vars; echo ended >&3'
+echo 'exit 0' >"$out/environment"
+gives 0 '' env BASH_ENV="$out/environment" SHELLOPTS=noexec "$copy/layouts" examples/triangle.col
+[[ $(cat "$out/stdout") == vars ]] || fail 'the environment makes another command'
+for part in shared status layouts; do
+    : >"$copy/commands/$part.sh"
+    [[ $(status_of "$copy/layouts" --help) -eq 1 ]] || fail "an empty commands/$part.sh"
+    passed
+    cp "commands/$part.sh" "$copy/commands"
+done
+# Nor is one that cannot start another a refusal.
+chmod 711 "$out" && chmod -R a+rX "$copy"
+no_process() {
+    local as=()
+    ((EUID != 0)) || as=(setpriv --reuid=65534 --regid=65534 --clear-groups)
+    "${as[@]}" bash -c 'ulimit -u 0 && exec "$0" /dev/null' "$copy/layouts"
+}
+gives 1 'fork' no_process
+# --version: the commit of these sources, and not that of a repository in which they lie.
+if command -v git >/dev/null; then
+    git init -q "$out" 2>/dev/null && git -C "$out" -c user.name=x -c user.email=x commit -q --allow-empty -m x
+    gives 0 '' "$copy/layouts" --version
+    grep -q 'Vayudrit of no known commit$' "$out/stdout" || fail "--version in another repository: $(cat "$out/stdout")"
+    echo 'commit abc1234' >"$copy/commands/release"
+    gives 0 '' "$copy/layouts" --version
+    grep -q 'Vayudrit commit abc1234$' "$out/stdout" || fail "--version of a release: $(cat "$out/stdout")"
+    rm -rf "$out/.git"
+fi
 while IFS='|' read -r number line words; do
     with_program 2 "^layouts: refused: $words ($number)$" "echo refused $number line $line >&3"
 done <<'END'
@@ -212,29 +300,40 @@ printf 'p edge 20 6\ne 1 2\ne 1 3\ne 1 4\ne 2 3\ne 2 4\ne 3 4\n' >"$out/silent" 
 moment() { sleep "0.$((RANDOM % 4))$((RANDOM % 10))"; }
 RANDOM=$seed
 child_of() { awk -v parent="$1" '{ sub(/.*\) /, "") } $2 == parent { split(FILENAME, part, "/"); print part[3] }' /proc/[0-9]*/stat 2>/dev/null | head -n 1 || :; }
-# killed SIGNAL WHOM [AT]: during a silent search, at a random moment or once the program runs
+# killed SIGNAL WHOM [AT]: during a search, at a random moment or once the program runs; nothing is left of it when the script ends
 killed() {
-    local script shell='' program='' whom
-    env --default-signal=HUP,INT,TERM ./layouts "$out/silent" >"$out/part" 2>/dev/null &
+    local script shell='' program='' whom status=0
+    env --default-signal "${ignored[@]}" ./layouts "$out/$text" >"$out/part" 2>/dev/null &
     script=$!
-    find_program() { shell=$(child_of "$script") && program=$(child_of "${shell:-none}") && [[ -n $program && $(cat "/proc/$program/comm") == layouts ]]; }
+    find_program() { shell=$(child_of "$script") && program=$(child_of "${shell:-none}") && [[ -n $program && $(cat "/proc/$program/comm" 2>/dev/null) == layouts ]]; }
     if (($# == 3)); then until_true find_program; else moment && { find_program || :; }; fi
     whom=${!2}
     kill "-$1" "${whom:-$script}"
-    wait "$script" && return
-    set -- "$?" "$2"
-    [[ $2 != shell ]] || kill -KILL "$program" # nobody else can
-    [[ -z $program ]] || until_true gone "$program" || fail 'the program runs on'
-    return "$1"
-}
-for turn in 1 2 3; do
-    for signal in HUP/129 INT/130 TERM/143; do gives "${signal#*/}" '' killed "${signal%/*}" script; done
-    for whom in shell program; do gives 1 '' killed KILL "$whom" running; done
+    wait "$script" || status=$?
     cp "$out/part" "$out/before"
-    sleep 0.1
-    cmp "$out/part" "$out/before" || fail 'something is written afterwards'
-    passed
+    [[ -z $program ]] || until_true gone "$program" || fail 'the program runs on'
+    [[ $1/$2 == KILL/script ]] || cmp "$out/part" "$out/before" || fail "something is written after $1 to the $2"
+    return "$status"
+}
+printf 'p edge 20 1\ne 1 2\n' >"$out/loud" # many lines, for minutes
+ulimit -c 0
+ignored=()
+for turn in 1 2 3; do
+    text=silent
+    for signal in HUP/129 INT/130 QUIT/131 USR1/138 USR2/140 PIPE/141 ALRM/142 TERM/143; do
+        gives "${signal#*/}" '' killed "${signal%/*}" script
+    done
+    for whom in shell program; do gives 1 '' killed KILL "$whom" running; done
+    text=loud
+    for signal in USR1/138 USR2/140 TERM/143; do gives "${signal#*/}" '' killed "${signal%/*}" script running; done
+    for whom in shell program; do gives 1 '' killed KILL "$whom" running; done
 done
+gives 137 '' killed KILL script running # nobody can wait then; the rest ends by itself
+# At once, also where a signal that the shells use among themselves is ignored.
+text=silent ignored=(--ignore-signal=USR1) began=$SECONDS
+gives 143 '' killed TERM script running
+((SECONDS - began <= 3)) || fail "TERM ended the command after $((SECONDS - began)) s"
+ignored=()
 clean
 
 # ---- the build: what is missing or older than its sources and nothing else, once, and it ends with the script ----
@@ -252,7 +351,7 @@ END
 chmod +x "$copy/path/rt"
 with_rt() { PATH=$copy/path:$PATH "$copy/layouts" <examples/triangle.col; }
 mkdir "$out/tools"
-for tool in bash dirname readlink mktemp find rm cat; do ln -s "$(command -v "$tool")" "$out/tools"; done
+for tool in bash env setpriv dirname readlink mktemp find rm cat; do ln -s "$(command -v "$tool")" "$out/tools"; done
 without_rt() { PATH=$out/tools "$copy/layouts" <examples/triangle.col; }
 times_built() { [[ $(wc -l <"$copy/built") -eq $1 ]] || fail "built $(wc -l <"$copy/built") times and not $1: $2"; }
 rm "$copy/target/bin/layouts"
@@ -291,9 +390,9 @@ killed_build() {
     kill "-$1" "$!"
     wait "$!"
 }
-for signal in HUP/129 INT/130 TERM/143; do
+for signal in HUP/129 INT/130 USR1/138 TERM/143 KILL/137; do
     gives "${signal#*/}" '' killed_build "${signal%/*}"
-    while read -r process; do gone "$process" || fail 'a process of the build runs on'; done <"$copy/running"
+    while read -r process; do until_true gone "$process" || fail 'a process of the build runs on'; done <"$copy/running"
     [[ ! -s $out/part && ! -e $copy/target/bin/layouts ]] || fail 'something is written after the signal'
     clean
 done
@@ -364,6 +463,9 @@ layouts come in the order of points||awk '/^[0-9]/ { print | "sort -n -k 2,2"; n
 an addition is not counted||awk '/^points/ { $4-- } 1'
 the stop is not told||sed 's/ ended$//'
 the last line feed is not written||head -c -1
+nothing is written||cat >/dev/null
+the first text is not written||tail -n +2
+no text after the first is written||head -n 1
 lines are counted from 0||awk '/^refused/ && $4 > 0 { $4-- } 1'
 too few e lines are told at the last line||sed 's/^refused 14 line 0$/refused 14 line 2/'
 repeats are no lines|awk '!(/^e / && seen[$0]++)'|

@@ -1,6 +1,6 @@
 /* slow-reader BYTES IGNORED COMMAND..: runs a command whose standard output is a pipe that does not wait, reads it slowly at first,
    copies what it reads, closes the pipe after so many bytes (0: reads all), and ends with the command's exit status. SIGPIPE is
-   ignored by the command, or not. */
+   ignored by the command, or not. Where PAUSE is set, standard input does not wait either, and so many seconds pass at first. */
 #include <fcntl.h>
 #include <signal.h>
 #include <stdio.h>
@@ -11,6 +11,8 @@
 static void command(const int ends[2], int ignored, char **words) {
     signal(SIGPIPE, ignored ? SIG_IGN : SIG_DFL);
     fcntl(ends[1], F_SETFL, fcntl(ends[1], F_GETFL) | O_NONBLOCK);
+    if (getenv("PAUSE"))
+        fcntl(STDIN_FILENO, F_SETFL, fcntl(STDIN_FILENO, F_GETFL) | O_NONBLOCK);
     dup2(ends[1], STDOUT_FILENO);
     close(ends[0]);
     close(ends[1]);
@@ -29,6 +31,8 @@ int main(int count, char **words) {
     if (child == 0)
         command(ends, atoi(words[2]), words + 3);
     close(ends[1]);
+    if (getenv("PAUSE"))
+        sleep((unsigned)atoi(getenv("PAUSE")));
     for (int turn = 0; all || left > 0; turn++) {
         if (turn < 20)
             usleep(10000);

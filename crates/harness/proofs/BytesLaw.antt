@@ -74,13 +74,15 @@ stop-small Ended = omega arith
 stop-small (Full x) = omega arith
 stop-small (Spent x) = omega arith
 
-pub answer-back : (e : ℕ) (w : Report) → stopPlace e (w .stop) < 2 ^ 64 → w .points < 2 ^ 64 → w .additions < 2 ^ 64 → w .found < 2 ^ 64
-    → reportSaid (wordsIn (bytesFrom (answerValues e (Ran w)))) ≡ w
-answer-back e w a b c d =
+pub values-back : (e : ℕ) (w : Report) → stopPlace e (w .stop) < 2 ^ 64 → w .points < 2 ^ 64 → w .additions < 2 ^ 64 → w .found < 2 ^ 64
+    → wordsIn (bytesFrom (answerValues e (Ran w))) ≡ answerValues e (Ran w)
+values-back e w a b c d =
     let k = 2 ^ 64 in
-    ap reportSaid (words-back (answerValues e (Ran w))
+    words-back (answerValues e (Ran w))
     (below-cons k (stopNumber (w .stop)) (stopPlace e (w .stop) ∷ w .points ∷ w .additions ∷ w .found ∷ []) (stop-small (w .stop))
     (below-cons k (stopPlace e (w .stop)) (w .points ∷ w .additions ∷ w .found ∷ []) a
     (below-cons k (w .points) (w .additions ∷ w .found ∷ []) b
-    (below-cons k (w .additions) (w .found ∷ []) c (below-cons k (w .found) [] d (below-nil k)))))))
-    ∙ (λ i. record { stop = stop-back e (w .stop) i; points = w .points; additions = w .additions; found = w .found })
+    (below-cons k (w .additions) (w .found ∷ []) c (below-cons k (w .found) [] d (below-nil k))))))
+
+pub answer-back : (e : ℕ) (w : Report) → reportSaid (answerValues e (Ran w)) ≡ w
+answer-back e w i = record { stop = stop-back e (w .stop) i; points = w .points; additions = w .additions; found = w .found }

@@ -2,10 +2,10 @@
 use mathlib.Core.Path.{_≡_, refl, sym, ap, ap₂, subst, _∙_}
 use mathlib.Core.Bool.{Bool, true, false}
 use mathlib.Core.Logic.{_⊎_, inl, inr}
-use mathlib.Core.Option.{Option, some}
-use mathlib.Core.List.{List, map}
+use mathlib.Core.Option.{Option, none, some}
+use mathlib.Core.List.{List, [], _∷_, map}
 use Prim.Native.Nat.{ℕ, _+_, _*_, _/_, _%_, _^_, _≤_, _<_}
-use native.Mathlib.Nat.{one-le-pow}
+use native.Mathlib.Nat.{one-le-pow, add-zero}
 use native.Mathlib.Omega.{arith}
 use lib.Dec.{eqb}
 use lib.ListN.{length}
@@ -13,14 +13,15 @@ use borrow.Author.Tests.{eqb-false}
 use Rattle.refusals.specs.declared.Refusal.the-variants as refusal
 use Rattle.refusals.specs.declared.Verdict.{Verdict}
 use Rattle.refusals.specs.declared.Verdict.the-variants as verdict
+use Rattle.refusals.specs.Choice.{pick}
 use Rattle.refusals.specs.Refusal.{codeOf, refuse, after}
 use Rattle.refusals.specs.Limits.{Within}
 use Rattle.gray.specs.Numbers.{pointOf}
 use Rattle.gray.proofs.MapLaw.{point-lt}
 use Rattle.tables.specs.Answers.{checkedOf}
 use Rattle.walks.specs.declared.Report.{Report}
-use Rattle.walks.specs.Calls.{Trail, zerosIn, costIn, pointsIn, stopPlace, reportOf, listAfter}
-use Rattle.walks.specs.Runs.{Request, Reply, awayWith, ranBy, Asks, Serves, SaysEnded, WholeRun}
+use Rattle.walks.specs.Calls.{Trail, zerosIn, costIn, pointsIn, stopNumber, stopPlace, reportOf, listAfter}
+use Rattle.walks.specs.Runs.{Request, Reply, pointsTold, OneReply, EachReply, awayWith, ranBy, Asks, Serves, SaysEnded, WholeRun}
 use Rattle.walks.specs.Zeros.{placesIn}
 use Rattle.walks.proofs.CallLaw.{points-end, cost-most, zeros-room, zeros-length, report-place}
 use Rattle.walks.proofs.RunsLaw.{whole-run, run-once}
@@ -30,6 +31,7 @@ use Rattle.opening.specs.declared.Record.{Record}
 use Rattle.opening.specs.Opened.{openedAt}
 use Rattle.opening.proofs.OpenLaw.{within, power-small}
 use Rattle.opening.proofs.PlaceLaw.{two}
+use Rattle.search.specs.declared.Answer.the-variants.{Ran}
 use Rattle.search.specs.declared.Outcome.{Outcome}
 use Rattle.search.specs.Search.{trailOf, searchVerdict, ranOf, outcomeFrom, answerValues}
 use Rattle.search.proofs.VerdictLaw.{asked, verdict-opened}
@@ -38,10 +40,10 @@ use Rattle.demand.proofs.DemandLaw.{trans-iff, end-is, distinct, cost-all, zero
 use Rattle.lists.specs.Listed.{foundIn, outcomeIn, listIn}
 use Rattle.wire.specs.Wire.{recordIn, recordWords}
 use Rattle.wire.proofs.SmallLaw.{record-bytes, record-back}
-use Rattle.vayudrit.specs.Call.{callVerdict, doneOf}
+use Rattle.vayudrit.specs.Call.{callVerdict, answerBytesAfter, doneOf}
 use Rattle.vayudrit.proofs.VerdictLaw.{right, shapes-done}
-use Rattle.harness.specs.Harness.{toldBy, replyBy, areWords, lentIf, bytesCall, recordAt, Lent, nightOf, WholeNight}
-use Rattle.harness.proofs.BytesLaw.{are-below, words-back, front-back, zeros-below, answer-back}
+use Rattle.harness.specs.Harness.{reportSaid, toldBy, replyBy, areWords, lentIf, bytesCall, recordAt, Lent, answerAfter, OneAnswer, EachAnswer, nightOf, WholeNight}
+use Rattle.harness.proofs.BytesLaw.{are-below, words-back, front-back, zeros-below, values-back, answer-back}
 
 place-opened : (n m : ℕ) (t : List ℕ) (q : ℕ) → openedAt n m t q .place .0 ≡ q
 unfolding openedAt
@@ -142,12 +144,18 @@ module _ (n m : ℕ) (table : List ℕ) (answers : List ℕ → Request → List
     far : p + k ≤ 3 ^ n
     far = subst (λ (x : ℕ). p + k ≤ x) (end-is n m t) (points-end T b (length l) p (subst (λ (x : ℕ). p ≤ x) (sym (end-is n m t)) h))
 
-    told-is : toldBy 0 (bytesFrom (answerValues (3 ^ n) (ranOf n m t p b (length l) .answer))) ≡ some w
+    -- the words of its answer
+    place-is : stopPlace (3 ^ n) (w .stop) ≡ p + k
+    place-is = ap (λ (x : ℕ). stopPlace x (w .stop)) (sym (end-is n m t)) ∙ report-place T b (length l) p
+
+    values-are : wordsIn (bytesFrom (answerValues (3 ^ n) (ranOf n m t p b (length l) .answer))) ≡ answerValues (3 ^ n) (Ran w)
     unfolding reportOf
-    told-is =
+    values-are =
         let s = place-small (p + k) far in
-        let e : stopPlace (3 ^ n) (w .stop) ≡ p + k = ap (λ (x : ℕ). stopPlace x (w .stop)) (sym (end-is n m t)) ∙ report-place T b (length l) p in
-        ap some (answer-back (3 ^ n) w (omega (arith, e, s)) (omega (arith, s)) (omega (arith, s, cost-most T 2 (cost-two n m t) p k)) (omega (arith, s, zeros-length T p k)))
+        values-back (3 ^ n) w (omega (arith, place-is, s)) (omega (arith, s)) (omega (arith, s, cost-most T 2 (cost-two n m t) p k)) (omega (arith, s, zeros-length T p k))
+
+    told-is : toldBy 0 (bytesFrom (answerValues (3 ^ n) (ranOf n m t p b (length l) .answer))) ≡ some w
+    told-is = ap (λ (x : List ℕ). some (reportSaid x)) values-are ∙ ap some (answer-back (3 ^ n) w)
 
     list-is : wordsIn (pasted (bytesFrom l) 0 (bytesFrom (foundIn n m t p b (length l)))) ≡ listAfter T b p l
     unfolding listAfter
@@ -168,6 +176,29 @@ module _ (n m : ℕ) (table : List ℕ) (answers : List ℕ → Request → List
 
     pub list-away : asked b l ≡ verdict.Refused refusal.List → replyBy n m table answer (at p) q ≡ awayWith (at p) q
     list-away e = reply-by (verdict.Refused refusal.List) e ∙ ap (λ (x : List ℕ). record { told = awayWith (at p) q .told; state = at p; list = x }) list-back
+
+    -- the answer's bytes, by the verdict and the outcome
+    abbrev AnswerFrom : Verdict → Outcome → Type 0
+    AnswerFrom v o =
+        let new = after v answer (bytesFrom (answerValues (3 ^ n) (o .answer))) in
+        OneAnswer p answer new (toldBy (codeOf v) new)
+
+    answer-ran : AnswerFrom verdict.Done (ranOf n m t p b (length l))
+    unfolding reportOf
+    answer-ran =
+        subst (OneAnswer p answer (bytesFrom (answerValues (3 ^ n) (ranOf n m t p b (length l) .answer)))) (sym told-is)
+        (values-are ∙ ap (λ (x : ℕ). stopNumber (w .stop) ∷ x ∷ w .points ∷ w .additions ∷ w .found ∷ []) place-is)
+
+    pub answer-by : (x y : Bool) → asked b l ≡ refuse x refusal.Budget (refuse y refusal.List verdict.Done)
+        → AnswerFrom (refuse x refusal.Budget (refuse y refusal.List verdict.Done)) (doneOf n m table (at p) b (bytesFrom l))
+    answer-by true y e = refl
+    answer-by false true e = refl
+    answer-by false false e = subst (AnswerFrom verdict.Done) (sym (ran-outcome e)) answer-ran
+
+    pub answer-is : AnswerFrom (callVerdict n m table (at p) b (bytesFrom l) answer) (doneOf n m table (at p) b (bytesFrom l))
+    answer-is =
+        subst (λ (v : Verdict). AnswerFrom v (doneOf n m table (at p) b (bytesFrom l))) (sym judged)
+        (answer-by (eqb b 0) (eqb (length l) 0) refl)
 
   pub serves : Serves T at (bytesCall n m table answers)
   unfolding bytesCall
@@ -196,6 +227,38 @@ module _ (n m : ℕ) (table : List ℕ) (answers : List ℕ → Request → List
           (call-by e (eqb (q .budget) 0) (eqb (length (q .list)) 0) refl refl)
       go false e = inl (ap (λ (z : Bool). lentIf z (replyBy n m table (answers (at p) q) (at p) q) (awayWith (at p) q)) e)
 
+  -- ---- the answers of a run
+  one-answer : (p : ℕ) (q : Request) → p ≤ T .end → OneAnswer p (answers (at p) q) (answerAfter n m table answers (at p) q) (bytesCall n m table answers (at p) q .told)
+  unfolding bytesCall
+  one-answer p q h = go (areWords (q .list)) refl
+    where
+      near : p ≤ 3 ^ n
+      near = subst (λ (x : ℕ). p ≤ x) (end-is n m t) h
+
+      By : Bool → Type 0
+      By z =
+          OneAnswer p (answers (at p) q) (pick z (answerBytesAfter n m table (at p) (q .budget) (bytesFrom (q .list)) (answers (at p) q)) (answers (at p) q))
+          (lentIf z (replyBy n m table (answers (at p) q) (at p) q) (awayWith (at p) q) .told)
+
+      go : (z : Bool) → areWords (q .list) ≡ z → By (areWords (q .list))
+      go true e = subst By (sym e) (answer-is p near q e)
+      go false e = subst By (sym e) refl
+
+  after-place : (p : ℕ) (s : List ℕ) (q : Request) (r : Reply (List ℕ)) → p ≤ T .end → s ≡ at p → (o : Option Report) → OneReply T at p s q r o
+      → (p + pointsTold o ≤ T .end) × (r .state ≡ at (p + pointsTold o))
+  after-place p s q r h e none k = (omega arith, k .state ∙ e ∙ ap at (sym (add-zero p)))
+  after-place p s q r h e (some w) m = (m .within, m .state)
+
+  answered : (p : ℕ) (s : List ℕ) (qs : List Request) → p ≤ T .end → s ≡ at p → EachReply T at (bytesCall n m table answers) p s qs
+      → EachAnswer n m table answers p s qs
+  answered p s [] h e f = tt
+  answered p s (q ∷ qs) h e f =
+      let r = bytesCall n m table answers s q in
+      let a = after-place p s q r h e (r .told) (f .0) in (
+        subst (λ (s : List ℕ). OneAnswer p (answers s q) (answerAfter n m table answers s q) (bytesCall n m table answers s q .told)) (sym e) (one-answer p q h),
+        answered (p + pointsTold (r .told)) (r .state) qs (a .0) (a .1) (f .1),
+      )
+
   some-places : 0 < T .end
   some-places = subst (λ (x : ℕ). 0 < x) (sym (end-is n m t)) (one-le-pow n 3 (omega arith))
 
@@ -209,6 +272,7 @@ module _ (n m : ℕ) (table : List ℕ) (answers : List ℕ → Request → List
       let d : WholeRun T at (bytesCall n m table answers) qs = whole-run T at (bytesCall n m table answers) serves qs some-places e in
       record {
         each = d .each;
+        answered = answered 0 (at 0) qs (omega arith) refl (d .each);
         last = d .last ∙ ap at (end-is n m t);
         all = λ x. trans-iff (d .all x) (zero-iff n m t x);
         once = run-once T at (bytesCall n m table answers) qs d (distinct n m t);

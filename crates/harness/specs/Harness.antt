@@ -5,10 +5,11 @@ use mathlib.Core.Logic.{_↔_}
 use mathlib.Core.Bool.{Bool, true, false, _&&_}
 use mathlib.Core.Option.{Option, none, some}
 use mathlib.Core.List.{List, [], _∷_, map}
-use Prim.Native.Nat.{ℕ, zero, suc, _-_, _*_, _^_}
+use Prim.Native.Nat.{ℕ, zero, suc, _+_, _-_, _*_, _^_}
 use lib.Dec.{ltb}
 use lib.ListN.{length, getD}
 use Rattle.refusals.specs.declared.Verdict.the-variants.{Done}
+use Rattle.refusals.specs.Choice.{pick}
 use Rattle.refusals.specs.Refusal.{codeOf}
 use Rattle.gray.specs.Numbers.{pointOf}
 use Rattle.tables.specs.Monomials.{countOf}
@@ -16,7 +17,8 @@ use Rattle.tables.specs.Answers.{checkedOf}
 use Rattle.walks.specs.declared.Report.{Report}
 use Rattle.walks.specs.declared.Stop.{Stop}
 use Rattle.walks.specs.declared.Stop.the-variants.{Ended, Full, Spent}
-use Rattle.walks.specs.Runs.{Request, Reply, Engine, awayWith, Sums, sumsOf, EachReply}
+use Rattle.walks.specs.Calls.{stopNumber}
+use Rattle.walks.specs.Runs.{Request, Reply, Engine, pointsTold, awayWith, Sums, sumsOf, EachReply}
 use Rattle.walks.specs.Zeros.{placesIn, Holds, Once}
 use Rattle.codec.specs.Codec.{wordsIn, bytesFrom}
 use Rattle.opening.specs.Opened.{openedAt}
@@ -71,16 +73,35 @@ pub record Lent (n m : ℕ) (table : List ℕ) (answers : List ℕ → Request �
   pub checked : checkedOf n m (wordsIn table) ≡ Done
   pub answer : (rec : List ℕ) (q : Request) → length (answers rec q) ≡ 40
 
+-- the answer's bytes after a call
+abbrev pub answerAfter : ℕ → ℕ → List ℕ → (List ℕ → Request → List ℕ) → List ℕ → Request → List ℕ
+answerAfter n m table answers rec q =
+    pick (areWords (q .list)) (answerBytesAfter n m table rec (q .budget) (bytesFrom (q .list)) (answers rec q)) (answers rec q)
+
+-- what they are: as they were where it told nothing; where it told w, from place p, the words stop, place, points, additions and found,
+-- and the place is the one that it came to, also when it ended
+abbrev pub OneAnswer : ℕ → List ℕ → List ℕ → Option Report → Type 0
+OneAnswer p old new none = new ≡ old
+OneAnswer p old new (some w) = wordsIn new ≡ stopNumber (w .stop) ∷ (p + w .points) ∷ w .points ∷ w .additions ∷ w .found ∷ []
+
+-- that of every call of a run, each begun with the record that the one before left
+abbrev pub EachAnswer : ℕ → ℕ → List ℕ → (List ℕ → Request → List ℕ) → ℕ → List ℕ → List Request → Type 0
+EachAnswer n m table answers p rec [] = Unit {0}
+EachAnswer n m table answers p rec (q ∷ qs) =
+    OneAnswer p (answers rec q) (answerAfter n m table answers rec q) (bytesCall n m table answers rec q .told)
+    × EachAnswer n m table answers (p + pointsTold (bytesCall n m table answers rec q .told)) (bytesCall n m table answers rec q .state) qs
+
 -- the run from the record opened at place 0
 abbrev pub nightOf : ℕ → ℕ → List ℕ → (List ℕ → Request → List ℕ) → List Request → Sums (List ℕ)
 nightOf n m table answers qs = sumsOf (bytesCall n m table answers) (recordAt n m table 0) qs
 
--- demand 3 over bytes, of a run whose last accepted answer says "ended": each call was refused and changed no byte of record and list,
+-- demand 3 over bytes, of a run whose last accepted answer says "ended": each call was refused and changed no byte of record, list and answer,
 -- or its answer tells that it examined the next places, at most its budget, at least one before the end, its record's bytes are those
 -- opened at the place it came to, and its list has the zeros among its own places in front and the rest as it was;
 -- the joined lists are all common zeros, each once, in Gray order; points and additions sum to those of the whole walk
 pub record WholeNight (n m : ℕ) (table : List ℕ) (answers : List ℕ → Request → List ℕ) (qs : List Request) : Type 0 where
   pub each : EachReply (trailOf n m (wordsIn table)) (recordAt n m table) (bytesCall n m table answers) 0 (recordAt n m table 0) qs
+  pub answered : EachAnswer n m table answers 0 (recordAt n m table 0) qs
   pub last : nightOf n m table answers qs .last ≡ recordAt n m table (3 ^ n)
   pub all : (x : ℕ) → Holds x (nightOf n m table answers qs .listed) ↔ CommonZero n m (wordsIn table) x
   pub once : Once (nightOf n m table answers qs .listed)

@@ -1,4 +1,5 @@
--- What is told at the end of a run, and when. The bytes taken are those that the calls of `write` answered.
+-- What is told at the end of a run, and when. `sent` is what the program has added up. That it adds up what `streams::send` answered
+-- for standard output is read and tested: no contract can say that a call was made.
 use mathlib.Core.Path.{_≡_}
 use mathlib.Core.Bool.{Bool, true, false, _&&_}
 use mathlib.Core.List.{List}

@@ -1,6 +1,7 @@
 // Reads a graph file from standard input and writes all its layouts to standard output: what it writes is said in planner's
 // specs/Output. Once all of it was taken, it tells on descriptor 3 how the run ended. Standard error has words where a read or a
-// write fails, and progress. Specs/Ending says when something is told, and what; that the bytes arrive is the system's part.
+// write fails, and progress. Specs/Ending says when something is told, and what; that `send` is called for each text, and with which
+// descriptor, is read and tested, and that the bytes arrive is the system's part.
 use crate::progress::Screen;
 use libc::STDERR_FILENO;
 use libc::STDIN_FILENO;

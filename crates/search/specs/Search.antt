@@ -90,7 +90,7 @@ answerValues e (Refused f) = []
 
 -- what a call has to tell by them
 abbrev pub valuesFrom : Verdict → ℕ → Report → List ℕ
-valuesFrom verdict.Done e w = stopNumber (w .stop) ∷ stopPlace e (w .stop) ∷ w .points ∷ w .additions ∷ w .found ∷ []
+valuesFrom verdict.Done e w = answerValues e (Ran w)
 valuesFrom (verdict.Refused f) e w = []
 
 pub record Tells (n m : ℕ) (t : List ℕ) (r : Record) (b : ℕ) (l : List ℕ) (a : Answer) : Type 0 where

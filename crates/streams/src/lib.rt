@@ -88,7 +88,8 @@ pub fn send(fd: i32, buf: &[u8]) -> usize
     done
 }
 
-// Closes a descriptor; whether everything that was written to it is still well then.
+// Closes a descriptor; whether everything that was written to it is still well then. Either answer may come for any descriptor, so
+// that there is nothing to ensure.
 pub fn finish(fd: i32) -> bool {
     libc::close(fd) == 0
 }

@@ -6,22 +6,23 @@ use lib.Dec.{eqb}
 use lib.ListN.{length}
 use Rattle.refusals.specs.declared.Refusal.the-variants.{Length}
 use Rattle.refusals.specs.declared.Verdict.{Verdict}
+use Rattle.refusals.specs.Limits.{recordLength}
 use Rattle.refusals.specs.Refusal.{refuse, sized, after}
 use Rattle.tables.specs.Monomials.{countOf}
 use Rattle.codec.specs.Codec.{wordsIn, bytesFrom}
 use Rattle.search.specs.declared.Outcome.{Outcome}
 use Rattle.search.specs.Search.{searchVerdict, answerValues}
 use Rattle.lists.specs.Listed.{outcomeIn, listIn}
-use Rattle.wire.specs.Wire.{recordIn, recordWords}
+use Rattle.wire.specs.Wire.{recordIn, recordWords, answerLength}
 
 -- refusal 2 over all arguments, given how many bytes each has: a table of N vectors has 16 N bytes, a record 360, an answer 40,
 -- and a list a multiple of 8
 abbrev pub shaped : ℕ → ℕ → ℕ → ℕ → ℕ → Verdict → Verdict
 shaped n table rec list answer v =
     refuse (not (eqb table (16 * countOf n))) Length
-    (refuse (not (eqb rec 360)) Length
+    (refuse (not (eqb rec recordLength)) Length
     (refuse (not (eqb (list % 8) 0)) Length
-    (refuse (not (eqb answer 40)) Length v)))
+    (refuse (not (eqb answer answerLength)) Length v)))
 
 -- what the call says: 1, then 2 over all arguments, then what the search says of the words
 abbrev pub callVerdict : ℕ → ℕ → List ℕ → List ℕ → ℕ → List ℕ → List ℕ → Verdict

@@ -4,6 +4,7 @@ use Prim.Native.Nat.{ℕ}
 use lib.IntN.{ℤ}
 use lib.ListN.{length}
 use Rattle.refusals.specs.declared.Verdict.{Verdict}
+use Rattle.refusals.specs.Limits as limits
 use Rattle.refusals.specs.Refusal.{after}
 use Rattle.gray.specs.Numbers.{pointOf, placeOf}
 use Rattle.balanced.specs.Balanced.{balancedOf, unbalancedOf}
@@ -24,7 +25,7 @@ evaluateAfter n m c x value = after (evaluateCall n m c x value) value (vectorWo
 
 -- opening at a place, into 45 words
 abbrev pub openCall : ℕ → ℕ → List ℕ → ℕ → List ℕ → Verdict
-openCall n m t p rec = room n m (length rec) 45 (openVerdict n m t p)
+openCall n m t p rec = room n m (length rec) limits.recordWords (openVerdict n m t p)
 
 abbrev pub openAfter : ℕ → ℕ → List ℕ → ℕ → List ℕ → List ℕ
 openAfter n m t p rec = after (openCall n m t p rec) rec (recordWords (openedAt n m t p))

@@ -1,5 +1,6 @@
 // The record of a table for C, as words; refusals as in table_calls.
 use gray::Place;
+use refusals::RECORD_WORDS;
 ghost use mathlib.Core.Path.{_≡_};
 ghost use Rattle.refusals.specs.Refusal.{codeOf};
 ghost use Rattle.vayudrit.specs.Operations.{openCall, openAfter};
@@ -16,7 +17,7 @@ pub extern "C" fn vayudrit_open(
     ensures { λ c. ⌜ (c ≡ codeOf (openCall n m (now (table .entry)) place (now («record» .entry))))
         × (now («record» .exit) ≡ openAfter n m (now (table .entry)) place (now («record» .entry))) ⌝ }
 {
-    let v = wire::room_for(n, m, record.len(), 45);
+    let v = wire::room_for(n, m, record.len(), RECORD_WORDS);
     let refused = refusals::code(v);
     if refused != 0 {
         return refused;

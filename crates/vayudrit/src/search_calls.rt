@@ -1,24 +1,30 @@
 // The search for C, over bytes: lengths are judged, then table and record are read, and record and answer written.
 use opening::Record;
+use refusals::MOST_WORDS;
+use refusals::RECORD_LENGTH;
 use refusals::Refusal;
 use refusals::Verdict;
+use refusals::sizes_fit;
 use search::Answer;
 use search::Outcome;
+use wire::ANSWER_LENGTH;
 ghost use mathlib.Core.Path.{_≡_};
 ghost use Prim.Native.Nat.{_*_, _/_, _≤_};
 ghost use lib.ListN.{length};
 ghost use Rattle.refusals.specs.declared.Verdict.the-variants.{Done};
+ghost use Rattle.refusals.specs.Limits.{mostUnknowns, recordLength};
 ghost use Rattle.refusals.specs.Refusal.{codeOf, sized};
 ghost use Rattle.tables.specs.Monomials.{countOf};
 ghost use Rattle.codec.specs.Codec.{wordsIn};
 ghost use Rattle.search.specs.Search.{answerNumber};
 ghost use Rattle.lists.specs.Listed.{outcomeIn, listIn};
+ghost use Rattle.wire.specs.Wire.{answerLength};
 ghost use Rattle.vayudrit.specs.Call.{shaped, callVerdict, recordBytesAfter, listBytesAfter, answerBytesAfter};
 ghost use Rattle.vayudrit.specs.Written.{recordBytes, answerBytes};
 
 // How many bytes a table of n unknowns has.
 fn table_bytes(n: u64) -> usize
-    requires { ⌜ (1 ≤ n) × (n ≤ 20) ⌝ }
+    requires { ⌜ (1 ≤ n) × (n ≤ mostUnknowns) ⌝ }
     ensures { λ r. ⌜ r ≡ 16 * countOf n ⌝ }
 {
     8 * tables::words(n)
@@ -28,29 +34,20 @@ fn table_bytes(n: u64) -> usize
 fn shapes(n: u64, m: u64, table: usize, record: usize, list: usize, answer: usize) -> Verdict
     ensures { λ r. ⌜ r ≡ sized n m (shaped n table «record» list answer Done) ⌝ }
 {
-    if n < 1 {
-        return Verdict::Refused(Refusal::Size);
-    }
-    if n > 20 {
-        return Verdict::Refused(Refusal::Size);
-    }
-    if m < 1 {
-        return Verdict::Refused(Refusal::Size);
-    }
-    if m > 64 {
+    if !sizes_fit(n, m) {
         return Verdict::Refused(Refusal::Size);
     }
     let bytes = table_bytes(n);
     if table != bytes {
         return Verdict::Refused(Refusal::Length);
     }
-    if record != 360 {
+    if record != RECORD_LENGTH {
         return Verdict::Refused(Refusal::Length);
     }
     if list % 8 != 0 {
         return Verdict::Refused(Refusal::Length);
     }
-    if answer != 40 {
+    if answer != ANSWER_LENGTH {
         return Verdict::Refused(Refusal::Length);
     }
     Verdict::Done
@@ -77,7 +74,7 @@ fn over_bytes(
 
 // Writes what a call gives on a walk that ends at place `end`: the record r and the answer, or with a refusal nothing.
 fn finish(end: u64, a: Answer, r: Record, record: &mut [u8], answer: &mut [u8]) -> u64
-    requires { ⌜ (length (now «record») ≡ 360) × (length (now answer) ≡ 40) ⌝ }
+    requires { ⌜ (length (now «record») ≡ recordLength) × (length (now answer) ≡ answerLength) ⌝ }
     ensures { λ c. ⌜ (c ≡ answerNumber a)
         × (now («record» .exit) ≡ recordBytes a r (now («record» .entry)))
         × (now (answer .exit) ≡ answerBytes end a (now (answer .entry))) ⌝ }
@@ -115,7 +112,7 @@ pub extern "C" fn vayudrit_search(
     }
     let r = wire::read_record(record);
     let end = positions::power(n);
-    let mut words = [0u64; 462];
+    let mut words = [0u64; MOST_WORDS];
     let o = over_bytes(n, m, table, r, budget, &mut words, list);
     let said = o.answer;
     let moved = o.record;

@@ -15,10 +15,10 @@ use Rattle.refusals.specs.declared.Verdict.the-variants.{Done, Refused}
 use Rattle.refusals.specs.Refusal.{codeOf, refuse, after}
 use Rattle.refusals.proofs.RefusalLaw.{done-test, done-next, refuse-none, refused-next, refused-last, sized-within, sized-next, sized-done}
 use Rattle.trits.specs.declared.Vector.{Vector}
-use Rattle.gray.specs.Answers.{pointFrom, placeFrom}
-use Rattle.balanced.specs.Answers.{balancedFrom}
+use Rattle.gray.specs.Answers.{pointFrom, placeFrom, pointTold, placeTold}
+use Rattle.balanced.specs.Answers.{balancedFrom, balancedTold}
 use Rattle.tables.specs.Answers.{valued, evaluatedCode}
-use Rattle.wire.specs.Lent.{room, single, vectorWords, pointNumber, pointPut, placeNumber, placePut, balancedNumber, balancedPut, valuePut}
+use Rattle.wire.specs.Lent.{room, single, vectorWords, pointPut, placePut, balancedPut, valuePut}
 
 -- ---- what every return says of the number and of what was lent
 abbrev pub Meets : {A : Type 0} → Verdict → ℕ → A → A → A → Type 0
@@ -67,15 +67,15 @@ module _ (n k : ℕ) where
       )
 
 -- ---- the answers
-pub point-meets : (u : Verdict) (x : ℕ) (old : List ℕ) → Meets u (pointNumber (pointFrom u x)) (pointPut (pointFrom u x) old) old (x ∷ [])
+pub point-meets : (u : Verdict) (x : ℕ) (old : List ℕ) → Meets u (pointTold (pointFrom u x) .0) (pointPut (pointFrom u x) old) old (x ∷ [])
 point-meets Done x old = (refl, refl)
 point-meets (Refused f) x old = (refl, refl)
 
-pub place-meets : (u : Verdict) (x : ℕ) (old : List ℕ) → Meets u (placeNumber (placeFrom u x)) (placePut (placeFrom u x) old) old (x ∷ [])
+pub place-meets : (u : Verdict) (x : ℕ) (old : List ℕ) → Meets u (placeTold (placeFrom u x) .0) (placePut (placeFrom u x) old) old (x ∷ [])
 place-meets Done x old = (refl, refl)
 place-meets (Refused f) x old = (refl, refl)
 
-pub balanced-meets : (u : Verdict) (y : ℤ) (old : List ℤ) → Meets u (balancedNumber (balancedFrom u y)) (balancedPut (balancedFrom u y) old) old (y ∷ [])
+pub balanced-meets : (u : Verdict) (y : ℤ) (old : List ℤ) → Meets u (balancedTold (balancedFrom u y) .0) (balancedPut (balancedFrom u y) old) old (y ∷ [])
 balanced-meets Done y old = (refl, refl)
 balanced-meets (Refused f) y old = (refl, refl)
 

@@ -6,7 +6,7 @@ use lib.Dec.{eqb}
 use lib.IntN.{ℤ}
 use Rattle.refusals.specs.declared.Refusal.the-variants.{Length}
 use Rattle.refusals.specs.declared.Verdict.{Verdict}
-use Rattle.refusals.specs.Refusal.{numberOf, refuse, sized, sizedUnknowns}
+use Rattle.refusals.specs.Refusal.{refuse, sized, sizedUnknowns}
 use Rattle.trits.specs.declared.Vector.{Vector}
 use Rattle.gray.specs.declared.PointAnswer.{PointAnswer}
 use Rattle.gray.specs.declared.PointAnswer.the-variants as point
@@ -16,6 +16,7 @@ use Rattle.balanced.specs.declared.BalancedAnswer.{BalancedAnswer}
 use Rattle.balanced.specs.declared.BalancedAnswer.the-variants as balanced
 use Rattle.tables.specs.declared.Evaluated.{Evaluated}
 use Rattle.tables.specs.declared.Evaluated.the-variants as evaluated
+use Rattle.tables.specs.Answers.{evaluatedWords}
 
 -- 1, then 2 of a result that has count entries and is to have wanted, then v
 abbrev pub room : ℕ → ℕ → ℕ → ℕ → Verdict → Verdict
@@ -25,33 +26,21 @@ room n m count wanted v = sized n m (refuse (not (eqb count wanted)) Length v)
 abbrev pub single : ℕ → ℕ → Verdict → Verdict
 single n count v = sizedUnknowns n (refuse (not (eqb count 1)) Length v)
 
--- the number and the words of each answer
-abbrev pub pointNumber : PointAnswer → ℕ
-pointNumber (point.At x) = 0
-pointNumber (point.Refused r) = numberOf r
-
+-- what each answer leaves in them; its number is in gray/specs/Answers, balanced/specs/Answers and tables/specs/Answers
 abbrev pub pointPut : PointAnswer → List ℕ → List ℕ
 pointPut (point.At x) old = x .0 ∷ []
 pointPut (point.Refused r) old = old
 
-abbrev pub placeNumber : PlaceAnswer → ℕ
-placeNumber (place.At p) = 0
-placeNumber (place.Refused r) = numberOf r
-
 abbrev pub placePut : PlaceAnswer → List ℕ → List ℕ
 placePut (place.At p) old = p .0 ∷ []
 placePut (place.Refused r) old = old
-
-abbrev pub balancedNumber : BalancedAnswer → ℕ
-balancedNumber (balanced.At y) = 0
-balancedNumber (balanced.Refused r) = numberOf r
 
 abbrev pub balancedPut : BalancedAnswer → List ℤ → List ℤ
 balancedPut (balanced.At y) old = y ∷ []
 balancedPut (balanced.Refused r) old = old
 
 abbrev pub vectorWords : Vector → List ℕ
-vectorWords v = v .high ∷ v .low ∷ []
+vectorWords v = evaluatedWords (evaluated.Value v)
 
 abbrev pub valuePut : Evaluated → List ℕ → List ℕ
 valuePut (evaluated.Value v) old = vectorWords v

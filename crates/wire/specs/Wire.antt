@@ -2,6 +2,7 @@
 use mathlib.Core.List.{List, [], _∷_}
 use Prim.Native.Nat.{ℕ}
 use lib.ListN.{getD, drop}
+use Rattle.refusals.specs.Limits as limits
 use Rattle.trits.specs.declared.Vector.{Vector}
 use Rattle.codec.specs.Codec.{wordsOf}
 use Rattle.opening.specs.declared.Record.{Record}
@@ -33,4 +34,8 @@ recordOf w =
 
 -- the record of 360 bytes
 abbrev pub recordIn : List ℕ → Record
-recordIn b = recordOf (wordsOf 45 b)
+recordIn b = recordOf (wordsOf limits.recordWords b)
+
+-- the bytes of an answer: five words
+abbrev pub answerLength : ℕ
+answerLength = 40

@@ -7,6 +7,10 @@ ghost use Rattle.codec.specs.Codec.{bytesFrom};
 ghost use Rattle.walks.specs.Calls.{stopNumber, stopPlace};
 ghost use Rattle.search.specs.declared.Answer.the-variants.{Ran};
 ghost use Rattle.search.specs.Search.{answerValues};
+ghost use Rattle.wire.specs.Wire.{answerLength};
+
+// The bytes of an answer: five words.
+pub const ANSWER_LENGTH: usize = 40;
 
 fn stop_number(s: Stop) -> u64
     ensures { λ r. ⌜ r ≡ stopNumber s ⌝ }
@@ -31,7 +35,7 @@ fn stop_place(end: u64, s: Stop) -> u64
 
 // All of b becomes the 40 bytes of an answer, of a walk that ends at place `end`.
 pub fn write_answer(end: u64, a: Report, b: &mut [u8])
-    requires { ⌜ length (now b) ≡ 40 ⌝ }
+    requires { ⌜ length (now b) ≡ answerLength ⌝ }
     ensures { λ _. ⌜ now (b .exit) ≡ bytesFrom (answerValues end (Ran a)) ⌝ }
 {
     let s = a.stop;

@@ -4,27 +4,22 @@ use gray::PlaceAnswer;
 use gray::PointAnswer;
 use refusals::Refusal;
 use refusals::Verdict;
+use refusals::sizes_fit;
+use refusals::unknowns_fit;
 use tables::Evaluated;
 ghost use mathlib.Core.Path.{_≡_};
 ghost use lib.ListN.{length};
 ghost use Rattle.refusals.specs.declared.Verdict.the-variants.{Done};
+ghost use Rattle.gray.specs.Answers.{pointTold, placeTold};
+ghost use Rattle.balanced.specs.Answers.{balancedTold};
 ghost use Rattle.tables.specs.Answers.{evaluatedCode};
-ghost use Rattle.wire.specs.Lent.{room, single, pointNumber, pointPut, placeNumber, placePut, balancedNumber, balancedPut, valuePut};
+ghost use Rattle.wire.specs.Lent.{room, single, pointPut, placePut, balancedPut, valuePut};
 
 // 1, then 2 of a result that has `count` entries and is to have `wanted`.
 pub fn room_for(n: u64, m: u64, count: usize, wanted: usize) -> Verdict
     ensures { λ r. ⌜ r ≡ room n m count wanted Done ⌝ }
 {
-    if n < 1 {
-        return Verdict::Refused(Refusal::Size);
-    }
-    if n > 20 {
-        return Verdict::Refused(Refusal::Size);
-    }
-    if m < 1 {
-        return Verdict::Refused(Refusal::Size);
-    }
-    if m > 64 {
+    if !sizes_fit(n, m) {
         return Verdict::Refused(Refusal::Size);
     }
     if count != wanted {
@@ -37,10 +32,7 @@ pub fn room_for(n: u64, m: u64, count: usize, wanted: usize) -> Verdict
 pub fn room_for_one(n: u64, count: usize) -> Verdict
     ensures { λ r. ⌜ r ≡ single n count Done ⌝ }
 {
-    if n < 1 {
-        return Verdict::Refused(Refusal::Size);
-    }
-    if n > 20 {
+    if !unknowns_fit(n) {
         return Verdict::Refused(Refusal::Size);
     }
     if count != 1 {
@@ -65,7 +57,7 @@ pub fn put_value(e: Evaluated, value: &mut [u64]) -> u64
 
 pub fn put_point(a: PointAnswer, point: &mut [u64]) -> u64
     requires { ⌜ length (now point) ≡ 1 ⌝ }
-    ensures { λ c. ⌜ (c ≡ pointNumber a) × (now (point .exit) ≡ pointPut a (now (point .entry))) ⌝ }
+    ensures { λ c. ⌜ (c ≡ pointTold a .0) × (now (point .exit) ≡ pointPut a (now (point .entry))) ⌝ }
 {
     match a {
         PointAnswer::At(x) => {
@@ -78,7 +70,7 @@ pub fn put_point(a: PointAnswer, point: &mut [u64]) -> u64
 
 pub fn put_place(a: PlaceAnswer, place: &mut [u64]) -> u64
     requires { ⌜ length (now place) ≡ 1 ⌝ }
-    ensures { λ c. ⌜ (c ≡ placeNumber a) × (now (place .exit) ≡ placePut a (now (place .entry))) ⌝ }
+    ensures { λ c. ⌜ (c ≡ placeTold a .0) × (now (place .exit) ≡ placePut a (now (place .entry))) ⌝ }
 {
     match a {
         PlaceAnswer::At(p) => {
@@ -91,7 +83,7 @@ pub fn put_place(a: PlaceAnswer, place: &mut [u64]) -> u64
 
 pub fn put_balanced(a: BalancedAnswer, number: &mut [i64]) -> u64
     requires { ⌜ length (now number) ≡ 1 ⌝ }
-    ensures { λ c. ⌜ (c ≡ balancedNumber a) × (now (number .exit) ≡ balancedPut a (now (number .entry))) ⌝ }
+    ensures { λ c. ⌜ (c ≡ balancedTold a .0) × (now (number .exit) ≡ balancedPut a (now (number .entry))) ⌝ }
 {
     match a {
         BalancedAnswer::At(y) => {

@@ -4,6 +4,7 @@ mod answers;
 mod lent;
 mod records;
 
+pub use answers::ANSWER_LENGTH;
 pub use answers::write_answer;
 pub use lent::put_balanced;
 pub use lent::put_place;

@@ -5,7 +5,8 @@ use lib.ListN.{length}
 use Rattle.balanced.specs.Balanced.{balancedOf}
 use Rattle.gray.specs.Answers.{convertVerdict}
 use Rattle.balanced.specs.declared.BalancedAnswer.{BalancedAnswer}
-use Rattle.wire.specs.Lent.{balancedNumber, balancedPut}
+use Rattle.balanced.specs.Answers.{balancedTold}
+use Rattle.wire.specs.Lent.{balancedPut}
 use Rattle.wire.specs.Lent.{single}
 use Rattle.vayudrit.proofs.VerdictLaw.{code-zero}
 use Rattle.wire.proofs.LentLaw.{early, moved, single-refused, single-done, balanced-meets}
@@ -64,7 +65,7 @@ returns-2 c =
     let p = c .before .put-balanced .ensures in
     let q = balanced-meets u (balancedOf (a .n) (a .point)) (a .number .now) in
     moved (single (a .n) (length (a .number .now)) u) u (h .1 u) _ _ (a .number .now) (balancedOf (a .n) (a .point) ∷ [])
-    (p .0 ∙ ap balancedNumber g ∙ q .0, p .1 ∙ ap (λ (z : BalancedAnswer). balancedPut z (a .number .now)) g ∙ q .1)
+    (p .0 ∙ ap (λ (z : BalancedAnswer). balancedTold z .0) g ∙ q .0, p .1 ∙ ap (λ (z : BalancedAnswer). balancedPut z (a .number .now)) g ∙ q .1)
 
 pub vayudrit-balanced-spec : {M : Type 1} → statement M
 vayudrit-balanced-spec =

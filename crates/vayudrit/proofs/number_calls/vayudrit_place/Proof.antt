@@ -5,7 +5,8 @@ use lib.ListN.{length}
 use Rattle.gray.specs.Numbers.{placeOf}
 use Rattle.gray.specs.Answers.{convertVerdict}
 use Rattle.gray.specs.declared.PlaceAnswer.{PlaceAnswer}
-use Rattle.wire.specs.Lent.{placeNumber, placePut}
+use Rattle.gray.specs.Answers.{placeTold}
+use Rattle.wire.specs.Lent.{placePut}
 use Rattle.wire.specs.Lent.{single}
 use Rattle.vayudrit.proofs.VerdictLaw.{code-zero}
 use Rattle.wire.proofs.LentLaw.{early, moved, single-refused, single-done, place-meets}
@@ -64,7 +65,7 @@ returns-2 c =
     let p = c .before .before .put-place .ensures in
     let q = place-meets u (placeOf 3 (a .n) (a .point)) (a .place .now) in
     moved (single (a .n) (length (a .place .now)) u) u (h .1 u) _ _ (a .place .now) (placeOf 3 (a .n) (a .point) ∷ [])
-    (p .0 ∙ ap placeNumber g ∙ q .0, p .1 ∙ ap (λ (z : PlaceAnswer). placePut z (a .place .now)) g ∙ q .1)
+    (p .0 ∙ ap (λ (z : PlaceAnswer). placeTold z .0) g ∙ q .0, p .1 ∙ ap (λ (z : PlaceAnswer). placePut z (a .place .now)) g ∙ q .1)
 
 pub vayudrit-place-spec : {M : Type 1} → statement M
 vayudrit-place-spec =

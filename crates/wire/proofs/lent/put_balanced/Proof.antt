@@ -5,7 +5,8 @@ use lib.IntN.{ℤ}
 use mir.Syntax.{w64}
 use mir.ValLaws.{toZ-ofZ}
 use Rattle.balanced.specs.declared.BalancedAnswer.{BalancedAnswer}
-use Rattle.wire.specs.Lent.{balancedNumber, balancedPut}
+use Rattle.balanced.specs.Answers.{balancedTold}
+use Rattle.wire.specs.Lent.{balancedPut}
 use Rattle.wire.proofs.LentLaw.{set-one}
 use borrow.Author.Needs.{needs}
 use Rattle.wire.proofs.lent.put_balanced.Statement.{statement}
@@ -39,7 +40,7 @@ returns : tie.Need-returns
 returns c =
     let s = c .before .before .before in
     let e = c .before .a .given .1 in
-    (sym (ap balancedNumber e), set-one (s .args .number .now) _ (s .pre) ∙ ap (λ (z : ℤ). z ∷ []) (toZ-ofZ w64 _ (record { sfits = c .known-told .given .0 .1 })) ∙ sym (ap (λ (z : BalancedAnswer). balancedPut z (s .args .number .now)) e))
+    (sym (ap (λ (z : BalancedAnswer). balancedTold z .0) e), set-one (s .args .number .now) _ (s .pre) ∙ ap (λ (z : ℤ). z ∷ []) (toZ-ofZ w64 _ (record { sfits = c .known-told .given .0 .1 })) ∙ sym (ap (λ (z : BalancedAnswer). balancedPut z (s .args .number .now)) e))
 
 -- src/lent.rt:93:1
 returns-2 : tie.Need-returns-2

@@ -1,7 +1,8 @@
 -- `wire::lent::put_place` meets its contract: each arm is a clause of the definitions.
 use mathlib.Core.Path.{sym, ap, _∙_}
 use Rattle.gray.specs.declared.PlaceAnswer.{PlaceAnswer}
-use Rattle.wire.specs.Lent.{placeNumber, placePut}
+use Rattle.gray.specs.Answers.{placeTold}
+use Rattle.wire.specs.Lent.{placePut}
 use Rattle.wire.proofs.LentLaw.{set-one}
 use borrow.Author.Needs.{needs}
 use Rattle.wire.proofs.lent.put_place.Statement.{statement}
@@ -35,7 +36,7 @@ returns : tie.Need-returns
 returns c =
     let s = c .before .before .before .before in
     let e = c .before .a .given .1 in
-    (sym (ap placeNumber e), set-one (s .args .place .now) _ (s .pre) ∙ sym (ap (λ (z : PlaceAnswer). placePut z (s .args .place .now)) e))
+    (sym (ap (λ (z : PlaceAnswer). placeTold z .0) e), set-one (s .args .place .now) _ (s .pre) ∙ sym (ap (λ (z : PlaceAnswer). placePut z (s .args .place .now)) e))
 
 -- src/lent.rt:80:1
 returns-2 : tie.Need-returns-2

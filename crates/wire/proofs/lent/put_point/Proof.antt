@@ -1,7 +1,8 @@
 -- `wire::lent::put_point` meets its contract: each arm is a clause of the definitions.
 use mathlib.Core.Path.{sym, ap, _∙_}
 use Rattle.gray.specs.declared.PointAnswer.{PointAnswer}
-use Rattle.wire.specs.Lent.{pointNumber, pointPut}
+use Rattle.gray.specs.Answers.{pointTold}
+use Rattle.wire.specs.Lent.{pointPut}
 use Rattle.wire.proofs.LentLaw.{set-one}
 use borrow.Author.Needs.{needs}
 use Rattle.wire.proofs.lent.put_point.Statement.{statement}
@@ -35,7 +36,7 @@ returns : tie.Need-returns
 returns c =
     let s = c .before .before .before .before in
     let e = c .before .a .given .1 in
-    (sym (ap pointNumber e), set-one (s .args .point .now) _ (s .pre) ∙ sym (ap (λ (z : PointAnswer). pointPut z (s .args .point .now)) e))
+    (sym (ap (λ (z : PointAnswer). pointTold z .0) e), set-one (s .args .point .now) _ (s .pre) ∙ sym (ap (λ (z : PointAnswer). pointPut z (s .args .point .now)) e))
 
 -- src/lent.rt:67:1
 returns-2 : tie.Need-returns-2

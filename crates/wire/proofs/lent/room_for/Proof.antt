@@ -1,33 +1,29 @@
 -- `wire::lent::room_for` meets its contract: one question after another.
-use borrow.Author.Tests.{eq-eqb, ne-eqb, lt-ltb, le-ltb}
+use mathlib.Core.Path.{refl, sym, _∙_}
+use borrow.Author.Tests.{eq-eqb, ne-eqb, not-true, not-false}
+use Rattle.refusals.proofs.RefusalLaw.{said-no, sized-not, sized-next}
+use borrow.Author.Needs.{needs}
 use Rattle.wire.proofs.lent.room_for.Statement.{statement}
 use Rattle.wire.proofs.lent.room_for.Tie as tie
 use Rattle.wire.proofs.lent.room_for.Reads as reads
 use Rattle.wire.proofs.lent.room_for.Lts as lts
+use Rattle.refusals.proofs.sizes_fit.Reads as sizes-fit-reads
 
--- src/lent.rt:20:9
+sizes-fit-requires : tie.Need-sizes-fit-requires
+sizes-fit-requires c κs = search needs
+
 returns : tie.Need-returns
-returns c = search (eq-eqb, ne-eqb, lt-ltb, le-ltb)
+returns c = sym (sized-not _ _ _ (said-no _ (c .before .sizes-fit .ensures) (not-true _ (c .if1 .taken))))
 
--- src/lent.rt:23:9
 returns-2 : tie.Need-returns-2
-returns-2 c = search (eq-eqb, ne-eqb, lt-ltb, le-ltb)
+returns-2 c =
+    let w = c .before .before .sizes-fit .ensures .0 (not-false _ (c .before .if1 .left)) in
+    sym (sized-next _ _ _ w ∙ rw (ne-eqb _ _ (c .if2 .taken)) refl)
 
--- src/lent.rt:26:9
 returns-3 : tie.Need-returns-3
-returns-3 c = search (eq-eqb, ne-eqb, lt-ltb, le-ltb)
-
--- src/lent.rt:29:9
-returns-4 : tie.Need-returns-4
-returns-4 c = search (eq-eqb, ne-eqb, lt-ltb, le-ltb)
-
--- src/lent.rt:32:9
-returns-5 : tie.Need-returns-5
-returns-5 c = search (eq-eqb, ne-eqb, lt-ltb, le-ltb)
-
--- src/lent.rt:16:1
-returns-6 : tie.Need-returns-6
-returns-6 c = search (eq-eqb, ne-eqb, lt-ltb, le-ltb)
+returns-3 c =
+    let w = c .before .before .sizes-fit .ensures .0 (not-false _ (c .before .if1 .left)) in
+    sym (sized-next _ _ _ w ∙ rw (eq-eqb _ _ (c .if2 .left)) refl)
 
 pub room-for-spec : {M : Type 1} → statement M
-room-for-spec = tie.close (tie.spec returns returns-2 returns-3 returns-4 returns-5 returns-6)
+room-for-spec = tie.close (tie.spec sizes-fit-requires returns returns-2 returns-3)
