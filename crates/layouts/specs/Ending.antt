@@ -11,6 +11,10 @@ use Rattle.planner.specs.Output.{outputOf, endedLine, toldOf, leftIf, leftOf}
 use Rattle.layouts.specs.declared.Driven.{Driven}
 use Rattle.layouts.specs.declared.Ending.{Ending}
 
+-- the bytes of the text that is lent to each call
+abbrev pub textBytes : ℕ
+textBytes = 65536
+
 -- the line is told exactly if the output's bytes were all taken and it could be closed; nothing is told otherwise
 pub record Ends (input b : List ℕ) (r : Ending) : Type 0 where
   pub fits : r .told ≤ length b

@@ -7,17 +7,24 @@ use libc::STDERR_FILENO;
 use libc::STDIN_FILENO;
 use libc::STDOUT_FILENO;
 use planner::Session;
+use refusals::MOST_WORDS;
+use refusals::PIECE_ENTRIES;
 use streams::Input;
 ghost use mathlib.Core.Path.{_≡_};
 ghost use Prim.Native.Nat.{_+_, _*_, _≤_};
 ghost use lib.ListN.{length};
+ghost use Rattle.refusals.specs.Limits.{mostWords, pieceEntries};
+ghost use Rattle.listing.specs.Listing.{longestLayout, longestTotals};
 ghost use Rattle.planner.specs.Output.{Standing};
-ghost use Rattle.layouts.specs.Ending.{Drives, Concludes, Walks, Ends};
+ghost use Rattle.layouts.specs.Ending.{textBytes, Drives, Concludes, Walks, Ends};
 
 mod progress;
 
 // At most so many points a call, so that progress shows: 2^26.
 const BUDGET: u64 = 67108864;
+
+// The bytes of the text that is lent to each call.
+const TEXT_BYTES: usize = 65536;
 
 // How many bytes of the output were taken so far, and whether those are all.
 struct Driven {
@@ -41,7 +48,7 @@ fn drive(
     first: u64,
     screen: Screen,
 ) -> Driven
-    requires { ⌜ Standing (now table) begun × (1 ≤ length (now list)) × (63 * length (now list) + 92 ≤ length (now text)) × (length (now text) ≤ 65536) × (first ≤ 65536) ⌝ }
+    requires { ⌜ Standing (now table) begun × (1 ≤ length (now list)) × (longestLayout * length (now list) + longestTotals ≤ length (now text)) × (length (now text) ≤ textBytes) × (first ≤ textBytes) ⌝ }
     ensures { λ r. ⌜ Drives (now (table .entry)) begun first r ⌝ }
 {
     let mut s = begun;
@@ -79,7 +86,7 @@ fn concluded(told: usize, sent: u64) -> Ending
 
 // The walk of a graph that was read, and its end; so many bytes were taken before it.
 fn walk_graph(s: Session, table: &[u64], list: &mut [u64], text: &mut [u8], first: u64) -> Ending
-    requires { ⌜ Standing (now table) s × (1 ≤ length (now list)) × (63 * length (now list) + 92 ≤ length (now text)) × (length (now text) ≤ 65536) × (first ≤ 65536) ⌝ }
+    requires { ⌜ Standing (now table) s × (1 ≤ length (now list)) × (longestLayout * length (now list) + longestTotals ≤ length (now text)) × (length (now text) ≤ textBytes) × (first ≤ textBytes) ⌝ }
     ensures { λ r. ⌜ Walks (now (table .entry)) s first (now (text .exit)) r ⌝ }
 {
     let screen = progress::look();
@@ -104,7 +111,7 @@ fn run(
     list: &mut [u64],
     text: &mut [u8],
 ) -> Ending
-    requires { ⌜ (length (now words) ≡ 462) × (length (now table) ≡ 462) × (length (now list) ≡ 1024) × (length (now text) ≡ 65536) ⌝ }
+    requires { ⌜ (length (now words) ≡ mostWords) × (length (now table) ≡ mostWords) × (length (now list) ≡ pieceEntries) × (length (now text) ≡ textBytes) ⌝ }
     ensures { λ r. ⌜ Ends (now (input .entry)) (now (text .exit)) r ⌝ }
 {
     let s = planner::begin(input, words, table, text);
@@ -139,10 +146,10 @@ fn tell(line: &[u8]) {
 
 fn main() {
     let mut buf = [0u8; 32769];
-    let mut words = [0u64; 462];
-    let mut table = [0u64; 462];
-    let mut list = [0u64; 1024];
-    let mut text = [0u8; 65536];
+    let mut words = [0u64; MOST_WORDS];
+    let mut table = [0u64; MOST_WORDS];
+    let mut list = [0u64; PIECE_ENTRIES];
+    let mut text = [0u8; TEXT_BYTES];
     match streams::receive(STDIN_FILENO, &mut buf) {
         Input::Failed => {
             streams::send(

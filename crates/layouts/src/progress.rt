@@ -33,9 +33,12 @@ pub(crate) fn make_room(screen: Screen, shown: bool, bytes: usize) -> bool {
     false
 }
 
-// Whether the line is to be written anew: once every 2^24 points.
+// The line is written anew once every so many points: 2^24.
+const SHOWN_EVERY: u64 = 16777216;
+
+// Whether it is due.
 fn due(before: u64, now: u64) -> bool {
-    before / 16777216 != now / 16777216
+    before / SHOWN_EVERY != now / SHOWN_EVERY
 }
 
 // The line anew, where it is due. Answers whether it is there.

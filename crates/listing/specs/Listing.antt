@@ -29,3 +29,13 @@ totalsLine p a f =
     (112 ∷ 111 ∷ 105 ∷ 110 ∷ 116 ∷ 115 ∷ 32 ∷ []) ++ (decimalOf p
     ++ ((32 ∷ 97 ∷ 100 ∷ 100 ∷ 105 ∷ 116 ∷ 105 ∷ 111 ∷ 110 ∷ 115 ∷ 32 ∷ []) ++ (decimalOf a
     ++ ((32 ∷ 102 ∷ 111 ∷ 117 ∷ 110 ∷ 100 ∷ 32 ∷ []) ++ (decimalOf f ++ (32 ∷ 101 ∷ 110 ∷ 100 ∷ 101 ∷ 100 ∷ 10 ∷ []))))))
+
+-- the most bytes of each: numbers have at most 20 digits, as a point has
+abbrev pub longestLayout : ℕ
+longestLayout = 63
+
+abbrev pub longestHead : ℕ
+longestHead = 51
+
+abbrev pub longestTotals : ℕ
+longestTotals = 92

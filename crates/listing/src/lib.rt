@@ -7,7 +7,7 @@ ghost use mathlib.Core.Path.{_≡_};
 ghost use Prim.Native.Nat.{_+_, _*_, _≤_, _<_};
 ghost use lib.ListN.{length};
 ghost use Rattle.texts.specs.Text.{Put};
-ghost use Rattle.listing.specs.Listing.{digitsOf, layoutLine, layoutLines, headLine, totalsLine};
+ghost use Rattle.listing.specs.Listing.{digitsOf, layoutLine, layoutLines, headLine, totalsLine, longestLayout, longestHead, longestTotals};
 
 // The n digits of a point, x0 first.
 fn put_digits(text: &mut [u8], at: usize, n: u64, x: u64) -> usize
@@ -27,8 +27,8 @@ fn put_digits(text: &mut [u8], at: usize, n: u64, x: u64) -> usize
 
 // The line of a layout: at most 63 bytes.
 fn put_layout(text: &mut [u8], at: usize, n: u64, x: u64) -> usize
-    requires { ⌜ (n ≤ 20) × (at + 63 ≤ length (now text)) ⌝ }
-    ensures { λ r. ⌜ Put (now (text .entry)) at (layoutLine n x) (now (text .exit)) r × (r ≤ at + 63) ⌝ }
+    requires { ⌜ (n ≤ 20) × (at + longestLayout ≤ length (now text)) ⌝ }
+    ensures { λ r. ⌜ Put (now (text .entry)) at (layoutLine n x) (now (text .exit)) r × (r ≤ at + longestLayout) ⌝ }
 {
     let place = gray::place_at(n, Point(x));
     let a = put_number(text, at, place.0);
@@ -41,8 +41,8 @@ fn put_layout(text: &mut [u8], at: usize, n: u64, x: u64) -> usize
 
 // A line for each point of a list.
 pub fn put_layouts(text: &mut [u8], n: u64, points: &[u64]) -> usize
-    requires { ⌜ (n ≤ 20) × (63 * length (now points) ≤ length (now text)) ⌝ }
-    ensures { λ r. ⌜ Put (now (text .entry)) 0 (layoutLines n (now (points .entry))) (now (text .exit)) r × (r ≤ 63 * length (now (points .entry))) ⌝ }
+    requires { ⌜ (n ≤ 20) × (longestLayout * length (now points) ≤ length (now text)) ⌝ }
+    ensures { λ r. ⌜ Put (now (text .entry)) 0 (layoutLines n (now (points .entry))) (now (text .exit)) r × (r ≤ longestLayout * length (now (points .entry))) ⌝ }
 {
     let mut next: usize = 0;
     let mut i: usize = 0;
@@ -55,8 +55,8 @@ pub fn put_layouts(text: &mut [u8], n: u64, points: &[u64]) -> usize
 
 // The first line.
 pub fn put_head(text: &mut [u8], n: u64, m: u64) -> usize
-    requires { ⌜ 51 ≤ length (now text) ⌝ }
-    ensures { λ r. ⌜ Put (now (text .entry)) 0 (headLine n m) (now (text .exit)) r × (r ≤ 51) ⌝ }
+    requires { ⌜ longestHead ≤ length (now text) ⌝ }
+    ensures { λ r. ⌜ Put (now (text .entry)) 0 (headLine n m) (now (text .exit)) r × (r ≤ longestHead) ⌝ }
 {
     let a = put(text, 0, b"vars ");
     let b = put_number(text, a, n);
@@ -67,8 +67,8 @@ pub fn put_head(text: &mut [u8], n: u64, m: u64) -> usize
 
 // The last line.
 pub fn put_totals(text: &mut [u8], at: usize, points: u64, additions: u64, found: u64) -> usize
-    requires { ⌜ at + 92 ≤ length (now text) ⌝ }
-    ensures { λ r. ⌜ Put (now (text .entry)) at (totalsLine points additions found) (now (text .exit)) r × (r ≤ at + 92) ⌝ }
+    requires { ⌜ at + longestTotals ≤ length (now text) ⌝ }
+    ensures { λ r. ⌜ Put (now (text .entry)) at (totalsLine points additions found) (now (text .exit)) r × (r ≤ at + longestTotals) ⌝ }
 {
     let a = put(text, at, b"points ");
     let b = put_number(text, a, points);

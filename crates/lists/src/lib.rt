@@ -2,6 +2,7 @@
 // Table, record, budget and list are judged once; each piece goes on from the record of the one before, and together they are one call.
 // Contracts cite specs/Listed (what the whole gives) and specs/Pieces (what a piece does).
 use opening::Record;
+use refusals::PIECE_ENTRIES;
 use refusals::Verdict;
 use search::Answer;
 use search::Outcome;
@@ -17,9 +18,6 @@ ghost use Rattle.codec.specs.Codec.{bytesFrom, pasted};
 ghost use Rattle.search.specs.Search.{fits, ranOf};
 ghost use Rattle.lists.specs.Listed.{foundIn, outcomeIn, listIn};
 ghost use Rattle.lists.specs.Pieces.{didOf, GoesOn};
-
-// So many entries are found before they are encoded.
-pub const PIECE: usize = 1024;
 
 fn lesser(a: usize, b: usize) -> usize
     ensures { λ r. ⌜ r ≡ min a b ⌝ }
@@ -146,7 +144,7 @@ pub fn search_bytes(
             record: r,
         },
         Verdict::Done => {
-            let mut words = [0u64; PIECE];
+            let mut words = [0u64; PIECE_ENTRIES];
             filled(n, m, table, r, budget, &mut words, list)
         }
     }

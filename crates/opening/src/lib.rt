@@ -1,6 +1,7 @@
 // The walk record, and opening at any place.
 // Contracts cite specs/Opened: the record at a place.
 use gray::Place;
+use refusals::MOST_UNKNOWNS;
 use refusals::Refusal;
 use refusals::Verdict;
 use trits::Vector;
@@ -20,7 +21,7 @@ pub struct Record {
     pub m: u64,
     pub place: Place,
     pub value: Vector,
-    pub slots: [Vector; 20],
+    pub slots: [Vector; MOST_UNKNOWNS],
 }
 
 // What opening gives: with a refusal the record is the one of zeros.
@@ -76,6 +77,6 @@ fn no_record() -> Record
         m: 0,
         place: Place(0),
         value: none,
-        slots: [none; 20],
+        slots: [none; MOST_UNKNOWNS],
     }
 }

@@ -2,6 +2,8 @@
 
 use crate::Record;
 use gray::Place;
+use refusals::MOST_UNKNOWNS;
+use refusals::MOST_WORDS;
 use trits::Vector;
 ghost use mathlib.Core.Path.{_≡_};
 ghost use Prim.Native.Nat.{ℕ, _+_, _-_, _*_, _%_, _^_, _<_, _≤_};
@@ -12,6 +14,7 @@ ghost use Rattle.polynomials.specs.Poly.{slope, diff};
 ghost use Rattle.tables.specs.Words.{polyAt, Table};
 ghost use Rattle.tables.specs.Monomials.{countOf};
 ghost use Rattle.refusals.specs.declared.Verdict.the-variants.{Done};
+ghost use Rattle.refusals.specs.Limits.{mostUnknowns};
 ghost use Rattle.tables.specs.Answers.{checkedOf};
 ghost use Rattle.opening.specs.Opened.{openedAt};
 ghost use Rattle.opening.specs.Parts.{Slots};
@@ -45,7 +48,7 @@ fn before_move(q: u64, power: u64) -> u64
 
 // How much the change of unknown b grows by t steps of unknown i.
 fn slope_term(c: &[u64], n: usize, b: usize, i: usize, t: u64) -> Vector
-    requires { ⌜ (n ≤ 20) × (b < n) × (i < n) × (length (now c) ≡ 2 * countOf n) ⌝ }
+    requires { ⌜ (n ≤ mostUnknowns) × (b < n) × (i < n) × (length (now c) ≡ 2 * countOf n) ⌝ }
     ensures { λ r. ⌜ ((m : ℕ) → Table n m (now (c .entry)) → Holds m (λ e. slope (polyAt n (now (c .entry)) e) b i * t) r) ⌝ }
 {
     if t == 0 {
@@ -64,8 +67,8 @@ fn slope_term(c: &[u64], n: usize, b: usize, i: usize, t: u64) -> Vector
 }
 
 // The change of unknown b at a point whose digits before the one before b are 0: its coefficients, and a term for each unknown from there on.
-fn change(c: &[u64], n: usize, b: usize, x: [u64; 20]) -> Vector
-    requires { ⌜ (n ≤ 20) × (b < n) × (length (now c) ≡ 2 * countOf n) ⌝ }
+fn change(c: &[u64], n: usize, b: usize, x: [u64; MOST_UNKNOWNS]) -> Vector
+    requires { ⌜ (n ≤ mostUnknowns) × (b < n) × (length (now c) ≡ 2 * countOf n) ⌝ }
     ensures { λ r. ⌜ ((m : ℕ) (p : ℕ → ℕ) → Table n m (now (c .entry)) → ((k : ℕ) → k < b - 1 → p k ≡ 0) → ((k : ℕ) → b - 1 ≤ k → k < n → getD x k 0 ≡ p k) → Holds m (λ e. diff (polyAt n (now (c .entry)) e) n b p) r) ⌝ }
 {
     let one = tables::vector(c, 1 + b);
@@ -82,11 +85,11 @@ fn change(c: &[u64], n: usize, b: usize, x: [u64; 20]) -> Vector
 }
 
 // The slots of the record whose latest place is q. Before the move of an unknown all digits below the one before it are 0.
-fn slots(c: &[u64], n: usize, q: u64) -> [Vector; 20]
-    requires { ⌜ (n ≤ 20) × (q < 2 ^ 32) × (length (now c) ≡ 2 * countOf n) ⌝ }
+fn slots(c: &[u64], n: usize, q: u64) -> [Vector; MOST_UNKNOWNS]
+    requires { ⌜ (n ≤ mostUnknowns) × (q < 2 ^ 32) × (length (now c) ≡ 2 * countOf n) ⌝ }
     ensures { λ r. ⌜ Slots n (now (c .entry)) q r ⌝ }
 {
-    let mut s = [Vector { high: 0, low: 0 }; 20];
+    let mut s = [Vector { high: 0, low: 0 }; MOST_UNKNOWNS];
     let mut power: u64 = 1;
     let mut lower: u64 = 1;
     let mut b: usize = 0;
@@ -135,7 +138,7 @@ pub fn record_at(n: u64, m: u64, table: &[u64], place: u64) -> Record
     requires { ⌜ (checkedOf n m (now table) ≡ Done) × (place ≤ 3 ^ n) ⌝ }
     ensures { λ r. ⌜ r ≡ openedAt n m (now (table .entry)) place ⌝ }
 {
-    let mut c = [0u64; 462];
+    let mut c = [0u64; MOST_WORDS];
     let len = table.len();
     fill(n, m, table, place, &mut c[..len])
 }

@@ -4,6 +4,7 @@ use mathlib.Core.Bool.{Bool, true, false, not}
 use mathlib.Core.List.{List, _++_}
 use Prim.Native.Nat.{ℕ, _+_, _*_, _^_, _≤_, _<_}
 use lib.ListN.{length, take}
+use Rattle.refusals.specs.Limits.{mostUnknowns, mostEquations}
 use Rattle.tables.specs.Monomials.{countOf}
 use Rattle.tables.specs.Words.{Table, differencesOf}
 use Rattle.walks.specs.declared.Stop.{Stop}
@@ -12,7 +13,7 @@ use Rattle.walks.specs.declared.Report.{Report}
 use Rattle.opening.specs.declared.Record.{Record}
 use Rattle.planner.specs.declared.Session.{Session}
 use Rattle.texts.specs.Text.{refusalLine}
-use Rattle.listing.specs.Listing.{layoutLines, headLine, totalsLine}
+use Rattle.listing.specs.Listing.{layoutLines, headLine, totalsLine, longestLayout, longestTotals}
 use Rattle.planner.specs.Output.{Standing, leftIf}
 
 -- the bytes b that are to be written hold a refusal, and the session is over
@@ -24,9 +25,9 @@ pub record Refuses (number line : ℕ) (b : List ℕ) (r : Session) : Type 0 whe
 -- what starting a walk asks: sizes within the limits, the words of a legal table, and room for its differences
 pub record Startable (n m : ℕ) (words table : List ℕ) : Type 0 where
   pub least : 1 ≤ n
-  pub most : n ≤ 20
+  pub most : n ≤ mostUnknowns
   pub some : 1 ≤ m
-  pub few : m ≤ 64
+  pub few : m ≤ mostEquations
   pub legal : Table n m words
   pub room : length table ≡ 2 * countOf n
 
@@ -49,11 +50,11 @@ isEnded (Spent x) = false
 
 -- what telling asks: sums that fit, and room for the lines of so many points and the totals
 pub record Tellable (s : Session) (w : Report) (l b : List ℕ) : Type 0 where
-  pub most : s .n ≤ 20
+  pub most : s .n ≤ mostUnknowns
   pub points : s .points + w .points < 2 ^ 64
   pub additions : s .additions + w .additions < 2 ^ 64
   pub found : s .found + w .found < 2 ^ 64
-  pub room : 63 * length l + 92 ≤ length b
+  pub room : longestLayout * length l + longestTotals ≤ length b
 
 -- r is the session s after a call that answered w, left the record o and listed l, with their lines in b to be written
 pub record Told (s : Session) (o : Record) (w : Report) (l b : List ℕ) (r : Session) : Type 0 where

@@ -3,6 +3,7 @@
 use gray::Place;
 use opening::Record;
 use reader::ReadAnswer;
+use refusals::MOST_UNKNOWNS;
 use search::Answer;
 use walks::Report;
 use walks::Stop;
@@ -10,6 +11,9 @@ ghost use mathlib.Core.Path.{_≡_};
 ghost use mathlib.Core.Bool.{true};
 ghost use Prim.Native.Nat.{_+_, _*_, _≤_};
 ghost use lib.ListN.{length};
+ghost use Rattle.refusals.specs.Limits.{mostWords};
+ghost use Rattle.texts.specs.Text.{longestRefusal};
+ghost use Rattle.listing.specs.Listing.{longestLayout, longestHead, longestTotals};
 ghost use Rattle.planner.specs.Output.{Standing, Begun, Went};
 ghost use Rattle.planner.specs.Parts.{Refuses, Startable, Started, isEnded, Tellable, Told};
 
@@ -33,13 +37,13 @@ fn no_record() -> Record {
         m: 0,
         place: Place(0),
         value: none,
-        slots: [none; 20],
+        slots: [none; MOST_UNKNOWNS],
     }
 }
 
 // A refusal: its line, and nothing after it.
 fn refused(number: u64, line: u64, text: &mut [u8]) -> Session
-    requires { ⌜ 55 ≤ length (now text) ⌝ }
+    requires { ⌜ longestRefusal ≤ length (now text) ⌝ }
     ensures { λ r. ⌜ Refuses number line (now (text .exit)) r ⌝ }
 {
     let used = texts::put_refusal(text, number, line);
@@ -57,7 +61,7 @@ fn refused(number: u64, line: u64, text: &mut [u8]) -> Session
 
 // The system of a graph that was read: its table of differences, its walk at place 0, and the first line.
 fn start(n: u64, m: u64, words: &[u64], table: &mut [u64], text: &mut [u8]) -> Session
-    requires { ⌜ Startable n m (now words) (now table) × (51 ≤ length (now text)) ⌝ }
+    requires { ⌜ Startable n m (now words) (now table) × (longestHead ≤ length (now text)) ⌝ }
     ensures { λ r. ⌜ Started n m (now (words .entry)) (now (table .exit)) (now (text .exit)) r ⌝ }
 {
     differences::differences(n, m, words, table);
@@ -78,7 +82,7 @@ fn start(n: u64, m: u64, words: &[u64], table: &mut [u64], text: &mut [u8]) -> S
 
 // Reads the input. The text has the first line, or the refusal; the table of a graph has its words in front.
 pub fn begin(input: &[u8], words: &mut [u64], table: &mut [u64], text: &mut [u8]) -> Session
-    requires { ⌜ (length (now words) ≡ 462) × (length (now table) ≡ 462) × (55 ≤ length (now text)) ⌝ }
+    requires { ⌜ (length (now words) ≡ mostWords) × (length (now table) ≡ mostWords) × (longestRefusal ≤ length (now text)) ⌝ }
     ensures { λ r. ⌜ Begun (now (input .entry)) (now (table .exit)) (now (text .exit)) r ⌝ }
 {
     let answer = reader::read(input, words);
@@ -143,7 +147,7 @@ fn tell(s: Session, record: Record, report: Report, points: &[u64], text: &mut [
 
 // One call of the search, of at most budget points: the text has a line for each layout that it found, and after the last call the totals.
 pub fn next(s: Session, table: &[u64], budget: u64, list: &mut [u64], text: &mut [u8]) -> Session
-    requires { ⌜ Standing (now table) s × (s .open ≡ true) × (1 ≤ budget) × (1 ≤ length (now list)) × (63 * length (now list) + 92 ≤ length (now text)) ⌝ }
+    requires { ⌜ Standing (now table) s × (s .open ≡ true) × (1 ≤ budget) × (1 ≤ length (now list)) × (longestLayout * length (now list) + longestTotals ≤ length (now text)) ⌝ }
     ensures { λ r. ⌜ Went (now (table .entry)) s (now (text .exit)) r ⌝ }
 {
     let r = s.record;

@@ -1,5 +1,6 @@
 // Two records are compared whole, field by field.
 use opening::Record;
+use refusals::MOST_UNKNOWNS;
 use trits::Vector;
 ghost use mathlib.Core.Path.{_≡_};
 ghost use Rattle.search.specs.Search.{sameVector, sameVectors, sameRecord};
@@ -13,11 +14,11 @@ fn same_vector(a: Vector, b: Vector) -> bool
     a.low == b.low
 }
 
-fn same_slots(a: [Vector; 20], b: [Vector; 20]) -> bool
+fn same_slots(a: [Vector; MOST_UNKNOWNS], b: [Vector; MOST_UNKNOWNS]) -> bool
     ensures { λ r. ⌜ r ≡ sameVectors a b ⌝ }
 {
     let mut i: usize = 0;
-    while i < 20 {
+    while i < MOST_UNKNOWNS {
         let v = a[i];
         let w = b[i];
         if !same_vector(v, w) {

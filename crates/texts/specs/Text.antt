@@ -20,6 +20,10 @@ unfoldable pub refusalLine : ℕ → ℕ → List ℕ
 refusalLine r k =
     (114 ∷ 101 ∷ 102 ∷ 117 ∷ 115 ∷ 101 ∷ 100 ∷ 32 ∷ []) ++ (decimalOf r ++ ((32 ∷ 108 ∷ 105 ∷ 110 ∷ 101 ∷ 32 ∷ []) ++ (decimalOf k ++ (10 ∷ []))))
 
+-- and the most bytes of one: two numbers of at most 20 digits
+abbrev pub longestRefusal : ℕ
+longestRefusal = 55
+
 -- s was put into a text at byte `at`: all other bytes stay, and the next free byte is `end`
 pub record Put (old : List ℕ) (at : ℕ) (s : List ℕ) (new : List ℕ) (end : ℕ) : Type 0 where
   pub size : length new ≡ length old

@@ -2,7 +2,7 @@
 ghost use mathlib.Core.Path.{_≡_};
 ghost use Prim.Native.Nat.{_+_, _≤_, _<_};
 ghost use lib.ListN.{length, drop};
-ghost use Rattle.texts.specs.Text.{Put, decimalOf, refusalLine};
+ghost use Rattle.texts.specs.Text.{Put, decimalOf, refusalLine, longestRefusal};
 
 // Bytes as they are.
 pub fn put(text: &mut [u8], at: usize, s: &[u8]) -> usize
@@ -53,8 +53,8 @@ pub fn put_number(text: &mut [u8], at: usize, x: u64) -> usize
 
 // The only line of a program that refuses its text.
 pub fn put_refusal(text: &mut [u8], number: u64, line: u64) -> usize
-    requires { ⌜ 55 ≤ length (now text) ⌝ }
-    ensures { λ r. ⌜ Put (now (text .entry)) 0 (refusalLine number line) (now (text .exit)) r × (r ≤ 55) ⌝ }
+    requires { ⌜ longestRefusal ≤ length (now text) ⌝ }
+    ensures { λ r. ⌜ Put (now (text .entry)) 0 (refusalLine number line) (now (text .exit)) r × (r ≤ longestRefusal) ⌝ }
 {
     let a = put(text, 0, b"refused ");
     let b = put_number(text, a, number);
