@@ -9,7 +9,7 @@ use native.Mathlib.Decide.{decLt}
 use native.Mathlib.Omega.{arith}
 use lib.Dec.{eqb}
 use lib.ListN.{length, take, length-take, length-append}
-use borrow.Author.Tests.{ne-eqb}
+use borrow.Author.Tests.{eq-eqb, ne-eqb}
 use Rattle.refusals.specs.declared.Refusal.{Refusal}
 use Rattle.refusals.specs.declared.Refusal.the-variants as refusal
 use Rattle.refusals.specs.declared.Verdict.{Verdict}
@@ -32,7 +32,7 @@ use Rattle.opening.proofs.OpenLaw.{within, power-small}
 use Rattle.search.proofs.VerdictLaw.{asked, verdict-opened}
 use Rattle.planner.specs.declared.Session.{Session}
 use Rattle.listing.specs.Listing.{layoutLine, layoutLines, totalsLine}
-use Rattle.planner.specs.Output.{Standing, leftFrom, leftIf, leftOf, Went}
+use Rattle.planner.specs.Output.{Standing, leftFrom, leftIf, leftOf, Went, Stepped}
 use Rattle.planner.specs.Parts.{isEnded, Tellable, Told}
 
 -- ---- lines
@@ -134,6 +134,7 @@ module _ (t : List ℕ) (s : Session) (st : Standing t s) (b : ℕ) (l : List �
     pub listed : take (w .found) z ≡ zerosIn T p k
     pub fits : w .found ≤ length z
     pub long : length z ≡ length l
+    pub left : z ≡ listAfter T b p l
 
   report-is : (w : Report) (o : Record) (z : List ℕ) → w ≡ reportOf T b (length l) p → o ≡ openedAt (s .n) (s .m) t (p + k) → z ≡ listAfter T b p l → Report-is w o z
   unfolding k reportOf
@@ -150,6 +151,7 @@ module _ (t : List ℕ) (s : Session) (st : Standing t s) (b : ℕ) (l : List �
         listed = ap₂ (λ (i : ℕ) (y : List ℕ). take i y) (ap (λ (w : Report). w .found) ew) ez ∙ after-front T b p l;
         fits = omega (arith, ap (λ (w : Report). w .found) ew, zeros-room T b (length l) p, ap length ez, after-length T b p l);
         long = ap length ez ∙ after-length T b p l;
+        left = ez;
       }
 
   -- no call is refused
@@ -189,7 +191,7 @@ module _ (t : List ℕ) (s : Session) (st : Standing t s) (b : ℕ) (l : List �
         }
 
     -- ---- the session after the call
-    module _ (text : List ℕ) (r : Session) (h : Told s o w (take (w .found) z) text r) where
+    module _ (old text : List ℕ) (r : Session) (h : Told s o w (take (w .found) z) old text r) where
       points-are : r .points ≡ p + k
       points-are = h .points ∙ ap (λ (x : ℕ). p + x) (i .points)
 
@@ -251,4 +253,21 @@ module _ (t : List ℕ) (s : Session) (st : Standing t s) (b : ℕ) (l : List �
             equations = h .equations;
             on = further;
             used = h .used;
+          }
+
+      ended-at : (x : Bool) → isEnded (w .stop) ≡ x → x ≡ eqb (r .points) (3 ^ s .n)
+      ended-at true e = sym (eq-eqb (r .points) (3 ^ s .n) (points-are ∙ i .ended .0 (ended-true (w .stop) e) ∙ end-is))
+      ended-at false e =
+          sym (ne-eqb (r .points) (3 ^ s .n)
+          (λ j. true≢false (sym (ap isEnded (i .ended .1 (sym points-are ∙ j ∙ sym end-is))) ∙ e)))
+
+      pub stepped : Stepped t s b l z old text r
+      unfolding k
+      stepped =
+          record {
+            points = points-are;
+            list = i .left;
+            over = h .going ∙ ap not (ended-at (isEnded (w .stop)) refl);
+            size = h .size;
+            rest = h .rest;
           }

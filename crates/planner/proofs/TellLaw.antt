@@ -4,7 +4,8 @@ use mathlib.Core.Bool.{Bool, true, false, not}
 use mathlib.Core.List.{List, _++_}
 use Prim.Native.Nat.{ℕ, _+_, _*_, _≤_}
 use native.Mathlib.Omega.{arith}
-use lib.ListN.{length}
+use lib.ListN.{length, drop}
+use lib.Seq.{drop-drop}
 use Rattle.walks.specs.declared.Report.{Report}
 use Rattle.opening.specs.declared.Record.{Record}
 use Rattle.planner.specs.declared.Session.{Session}
@@ -30,7 +31,7 @@ module _ (s : Session) (o : Record) (w : Report) (l old : List ℕ) (h : Tellabl
         «open» = going;
       }
 
-  pub told-on : b ≡ false → Told s o w l mid (added at true)
+  pub told-on : b ≡ false → Told s o w l old mid (added at true)
   told-on e =
       let z = sym eb ∙ e in
       record {
@@ -42,12 +43,14 @@ module _ (s : Session) (o : Record) (w : Report) (l old : List ℕ) (h : Tellabl
         found = refl;
         going = ap not (sym z);
         used = omega (arith, put .size, h .room);
+        size = put .size;
+        rest = put .rest;
         bytes = put .front ∙ sym (append-none (layoutLines (s .n) l))
             ∙ ap (λ (x : Bool). layoutLines (s .n) l ++ leftIf x (totalsLine (s .points + w .points) (s .additions + w .additions) (s .found + w .found))) (sym z);
       }
 
   pub told-over : (new : List ℕ) (end : ℕ) → Put mid at (totalsLine (s .points + w .points) (s .additions + w .additions) (s .found + w .found)) new end
-      → end ≤ at + 92 → b ≡ true → Told s o w l new (added end false)
+      → end ≤ at + 92 → b ≡ true → Told s o w l old new (added end false)
   told-over new end last far e =
       let z = sym eb ∙ e in
       record {
@@ -59,7 +62,15 @@ module _ (s : Session) (o : Record) (w : Report) (l old : List ℕ) (h : Tellabl
         found = refl;
         going = ap not (sym z);
         used = omega (arith, put .size, last .size, h .room);
+        size = last .size ∙ put .size;
+        rest = last .rest ∙ farther;
         bytes = last .front
             ∙ ap (λ (x : List ℕ). x ++ totalsLine (s .points + w .points) (s .additions + w .additions) (s .found + w .found)) (put .front)
             ∙ ap (λ (x : Bool). layoutLines (s .n) l ++ leftIf x (totalsLine (s .points + w .points) (s .additions + w .additions) (s .found + w .found))) (sym z);
       }
+    where
+      farther : drop end mid ≡ drop end old
+      farther =
+          let k = length (totalsLine (s .points + w .points) (s .additions + w .additions) (s .found + w .found)) in
+          ap (λ (x : ℕ). drop x mid) (last .next) ∙ sym (drop-drop k at mid) ∙ ap (drop k) (put .rest) ∙ drop-drop k at old
+          ∙ ap (λ (x : ℕ). drop x old) (sym (last .next))

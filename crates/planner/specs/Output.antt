@@ -4,7 +4,7 @@ use mathlib.Core.Bool.{Bool, true, false, not, _&&_}
 use mathlib.Core.List.{List, [], _∷_, _++_}
 use Prim.Native.Nat.{ℕ, zero, suc, _+_, _-_, _*_, _^_, _≤_, _<_}
 use lib.Dec.{eqb}
-use lib.ListN.{length, take}
+use lib.ListN.{length, take, drop}
 use Rattle.refusals.specs.declared.Verdict.the-variants.{Done}
 use Rattle.refusals.specs.Refusal.{numberOf}
 use Rattle.gray.specs.Numbers.{pointDigit, pointOf}
@@ -12,7 +12,7 @@ use Rattle.tables.specs.Monomials.{countOf}
 use Rattle.tables.specs.Answers.{checkedOf}
 use Rattle.graphs.specs.Edges.{Ends}
 use Rattle.graphs.specs.Reading.{wordsLeast, Outcome, graph, refused, outcomeOf}
-use Rattle.walks.specs.Calls.{Trail, listed, zerosIn, costIn}
+use Rattle.walks.specs.Calls.{Trail, listed, zerosIn, costIn, pointsIn, listAfter}
 use Rattle.search.specs.Search.{trailOf}
 use Rattle.opening.specs.Opened.{openedAt}
 use Rattle.planner.specs.declared.Session.{Session}
@@ -94,6 +94,15 @@ pub record Went (t : List ℕ) (s : Session) (b : List ℕ) (r : Session) : Type
   pub equations : r .m ≡ s .m
   pub on : r .open ≡ true → s .points < r .points
   pub used : r .used ≤ length b
+
+-- and exactly: the points examined are those of a call with this budget and a list so long, the list is as the call leaves it, the session
+-- is over exactly at the end of the walk, and the bytes of the text from `used` on are as they were
+pub record Stepped (t : List ℕ) (s : Session) (budget : ℕ) (l after old new : List ℕ) (r : Session) : Type 0 where
+  pub points : r .points ≡ s .points + pointsIn (trailOf (s .n) (s .m) t) budget (length l) (s .points)
+  pub list : after ≡ listAfter (trailOf (s .n) (s .m) t) budget (s .points) l
+  pub over : r .open ≡ not (eqb (r .points) (3 ^ s .n))
+  pub size : length new ≡ length old
+  pub rest : drop (r .used) new ≡ drop (r .used) old
 
 -- a row of calls from s to r, and what they leave to be written, joined in order
 pub data Calls (t : List ℕ) : Session → List ℕ → Session → Type 0 where

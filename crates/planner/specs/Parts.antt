@@ -3,7 +3,7 @@ use mathlib.Core.Path.{_≡_}
 use mathlib.Core.Bool.{Bool, true, false, not}
 use mathlib.Core.List.{List, _++_}
 use Prim.Native.Nat.{ℕ, _+_, _*_, _^_, _≤_, _<_}
-use lib.ListN.{length, take}
+use lib.ListN.{length, take, drop}
 use Rattle.refusals.specs.Limits.{mostUnknowns, mostEquations}
 use Rattle.tables.specs.Monomials.{countOf}
 use Rattle.tables.specs.Words.{Table, differencesOf}
@@ -56,8 +56,8 @@ pub record Tellable (s : Session) (w : Report) (l b : List ℕ) : Type 0 where
   pub found : s .found + w .found < 2 ^ 64
   pub room : longestLayout * length l + longestTotals ≤ length b
 
--- r is the session s after a call that answered w, left the record o and listed l, with their lines in b to be written
-pub record Told (s : Session) (o : Record) (w : Report) (l b : List ℕ) (r : Session) : Type 0 where
+-- r is the session s after a call that answered w, left the record o and listed l, with their lines in b to be written; after them b is as it was
+pub record Told (s : Session) (o : Record) (w : Report) (l old b : List ℕ) (r : Session) : Type 0 where
   pub unknowns : r .n ≡ s .n
   pub equations : r .m ≡ s .m
   pub «record» : r .«record» ≡ o
@@ -66,4 +66,6 @@ pub record Told (s : Session) (o : Record) (w : Report) (l b : List ℕ) (r : Se
   pub found : r .found ≡ s .found + w .found
   pub going : r .open ≡ not (isEnded (w .stop))
   pub used : r .used ≤ length b
+  pub size : length b ≡ length old
+  pub rest : drop (r .used) b ≡ drop (r .used) old
   pub bytes : take (r .used) b ≡ layoutLines (s .n) l ++ leftIf (isEnded (w .stop)) (totalsLine (r .points) (r .additions) (r .found))

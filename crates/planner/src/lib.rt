@@ -14,7 +14,7 @@ ghost use lib.ListN.{length};
 ghost use Rattle.refusals.specs.Limits.{mostWords};
 ghost use Rattle.texts.specs.Text.{longestRefusal};
 ghost use Rattle.listing.specs.Listing.{longestLayout, longestHead, longestTotals};
-ghost use Rattle.planner.specs.Output.{Standing, Begun, Went};
+ghost use Rattle.planner.specs.Output.{Standing, Begun, Went, Stepped};
 ghost use Rattle.planner.specs.Parts.{Refuses, Startable, Started, isEnded, Tellable, Told};
 
 // Between two calls: the walk's record, what the calls so far did, and how many bytes of the text are to be written.
@@ -112,7 +112,7 @@ fn ended(stop: Stop) -> bool
 // What a call did is added and its points are listed; after the last call the totals too.
 fn tell(s: Session, record: Record, report: Report, points: &[u64], text: &mut [u8]) -> Session
     requires { ⌜ Tellable s report (now points) (now text) ⌝ }
-    ensures { λ r. ⌜ Told s «record» report (now (points .entry)) (now (text .exit)) r ⌝ }
+    ensures { λ r. ⌜ Told s «record» report (now (points .entry)) (now (text .entry)) (now (text .exit)) r ⌝ }
 {
     let stop = report.stop;
     let additions = s.additions + report.additions;
@@ -148,7 +148,8 @@ fn tell(s: Session, record: Record, report: Report, points: &[u64], text: &mut [
 // One call of the search, of at most budget points: the text has a line for each layout that it found, and after the last call the totals.
 pub fn next(s: Session, table: &[u64], budget: u64, list: &mut [u64], text: &mut [u8]) -> Session
     requires { ⌜ Standing (now table) s × (s .open ≡ true) × (1 ≤ budget) × (1 ≤ length (now list)) × (longestLayout * length (now list) + longestTotals ≤ length (now text)) ⌝ }
-    ensures { λ r. ⌜ Went (now (table .entry)) s (now (text .exit)) r ⌝ }
+    ensures { λ r. ⌜ Went (now (table .entry)) s (now (text .exit)) r
+        × Stepped (now (table .entry)) s budget (now (list .entry)) (now (list .exit)) (now (text .entry)) (now (text .exit)) r ⌝ }
 {
     let r = s.record;
     let o = search::search(s.n, s.m, table, r, budget, list);

@@ -34,7 +34,7 @@ slice-reshare-prefix-send : tie.Need-slice-reshare-prefix-send Inv-loop μ-loop
 slice-reshare-prefix-send c = search needs
 
 slice-aggregate-send : tie.Need-slice-aggregate-send Inv-loop μ-loop
-slice-aggregate-send c = sym (length-take-le (c .before .before .before .before .before .before .next .result .used) (c .before .before .before .before .before .before .next .last .1 .1 .1 .1 .0) (c .before .before .before .before .before .before .next .ensures .used))
+slice-aggregate-send c = sym (length-take-le (c .before .before .before .before .before .before .next .result .used) (c .before .before .before .before .before .before .next .last .1 .1 .1 .1 .0) (c .before .before .before .before .before .before .next .ensures .0 .used))
 
 send-requires : tie.Need-send-requires Inv-loop μ-loop
 send-requires c κs = search needs
@@ -45,8 +45,8 @@ add-sent c =
     let l = c .before .before .before .before .before .before .before .before .before .before .before .loop in
     let k = c .before .before .before .before .before .before .before .next in
     let b = k .last .1 .1 .1 .1 .0 in
-    let most : c .send .result ≤ k .result .used = omega (arith, c .send .ensures, length-take-le (k .result .used) b (k .ensures .used)) in
-    record { fits = omega (arith, most, sum-fits (a .table .now) (a .begun) (a .first) (l .s) (l .sent) (l .inv .0) b (k .result) (c .before .before .before .before .before .before .before .before .before .before .loop-test .taken) (k .ensures) (omega (arith, k .kept .1 .1 .1 .1 .0, l .inv .5))) }
+    let most : c .send .result ≤ k .result .used = omega (arith, c .send .ensures, length-take-le (k .result .used) b (k .ensures .0 .used)) in
+    record { fits = omega (arith, most, sum-fits (a .table .now) (a .begun) (a .first) (l .s) (l .sent) (l .inv .0) b (k .result) (c .before .before .before .before .before .before .before .before .before .before .loop-test .taken) (k .ensures .0) (omega (arith, k .kept .1 .1 .1 .1 .0, l .inv .5))) }
 
 same-length : tie.Need-same-length Inv-loop μ-loop
 same-length c = search needs
@@ -60,13 +60,13 @@ returns c =
     let l = c .before .before .before .before .before .before .before .before .before .before .before .before .loop in
     let k = c .before .before .before .before .before .before .before .before .next in
     let b = k .last .1 .1 .1 .1 .0 in
-    record { all = short (a .table .now) (a .begun) (a .first) (l .s) (l .sent) (l .inv .0) b (k .result) (c .before .before .before .before .before .before .before .before .before .before .before .loop-test .taken) (k .ensures) (omega (arith, k .kept .1 .1 .1 .1 .0, l .inv .5)) (c .before .send .result) (c .if1 .taken) }
+    record { all = short (a .table .now) (a .begun) (a .first) (l .s) (l .sent) (l .inv .0) b (k .result) (c .before .before .before .before .before .before .before .before .before .before .before .loop-test .taken) (k .ensures .0) (omega (arith, k .kept .1 .1 .1 .1 .0, l .inv .5)) (c .before .send .result) (c .if1 .taken) }
 
 show-requires : tie.Need-show-requires Inv-loop μ-loop
 show-requires c κs = search needs
 
 loop-less : tie.Need-loop-less Inv-loop μ-loop
-loop-less c = falls (c .before .before .before .before .before .before .before .before .before .before .before .before .before .before .before .before .before .args .table .now) (c .before .before .before .before .before .before .before .before .before .before .before .before .before .loop .s) (c .before .before .before .before .before .before .before .before .before .next .last .1 .1 .1 .1 .0) (c .before .before .before .before .before .before .before .before .before .next .result) (c .before .before .before .before .before .before .before .before .before .before .before .before .loop-test .taken) (c .before .before .before .before .before .before .before .before .before .next .ensures)
+loop-less c = falls (c .before .before .before .before .before .before .before .before .before .before .before .before .before .before .before .before .before .args .table .now) (c .before .before .before .before .before .before .before .before .before .before .before .before .before .loop .s) (c .before .before .before .before .before .before .before .before .before .next .last .1 .1 .1 .1 .0) (c .before .before .before .before .before .before .before .before .before .next .result) (c .before .before .before .before .before .before .before .before .before .before .before .before .loop-test .taken) (c .before .before .before .before .before .before .before .before .before .next .ensures .0)
 
 loop-again : tie.Need-loop-again Inv-loop μ-loop
 loop-again c =
@@ -74,8 +74,8 @@ loop-again c =
     let l = c .before .before .before .before .before .before .before .before .before .before .before .before .before .loop in
     let k = c .before .before .before .before .before .before .before .before .before .next in
     let b = k .last .1 .1 .1 .1 .0 in
-    let most : c .before .before .send .result ≤ k .result .used = omega (arith, c .before .before .send .ensures, length-take-le (k .result .used) b (k .ensures .used)) in (
-      counted-next (a .table .now) (a .begun) (a .first) (l .s) (l .sent) (l .inv .0) b (k .result) (c .before .before .before .before .before .before .before .before .before .before .before .before .loop-test .taken) (k .ensures) (omega (arith, k .kept .1 .1 .1 .1 .0, l .inv .5)) (c .before .before .send .result) most (c .before .if1 .left),
+    let most : c .before .before .send .result ≤ k .result .used = omega (arith, c .before .before .send .ensures, length-take-le (k .result .used) b (k .ensures .0 .used)) in (
+      counted-next (a .table .now) (a .begun) (a .first) (l .s) (l .sent) (l .inv .0) b (k .result) (c .before .before .before .before .before .before .before .before .before .before .before .before .loop-test .taken) (k .ensures .0) (omega (arith, k .kept .1 .1 .1 .1 .0, l .inv .5)) (c .before .before .send .result) most (c .before .if1 .left),
       k .kept .1 .1 .1 .0 ∙ l .inv .1,
       k .kept .1 .1 .1 .1 .0 ∙ l .inv .2,
       omega (arith, k .kept .1 .1 .1 .0, l .inv .3),

@@ -4,7 +4,7 @@ use Prim.Native.Nat.{_<_}
 use native.Mathlib.Omega.{arith}
 use lib.ListN.{length}
 use lib.Seq.{length-take-le}
-use Rattle.planner.proofs.NextLaw.{not-refused, answered, tellable, went}
+use Rattle.planner.proofs.NextLaw.{not-refused, answered, tellable, went, stepped}
 use borrow.Author.Needs.{needs}
 use Rattle.planner.proofs.next.Statement.{statement}
 use Rattle.planner.proofs.next.Tie as tie
@@ -57,7 +57,10 @@ returns c =
     let some : 0 < a .budget = omega (arith, s .pre .2) in
     let room : 0 < length (a .list .now) = omega (arith, s .pre .3) in
     let i = answered (a .table .now) (a .s) (s .pre .0) (a .budget) (a .list .now) some room (k .result) _ (k .last .1 .1 .1 .1 .1 .0) (k .ensures .0) (k .ensures .1) (c .before .before .before .before .before .before .answer .given .1) in
-    went (a .table .now) (a .s) (s .pre .0) (a .budget) (a .list .now) some room _ _ (k .last .1 .1 .1 .1 .1 .0) i (c .before .before .tell .last .1 .1 .1 .1 .0) (c .before .before .tell .result) (c .before .before .tell .ensures) (s .pre .1)
+    let t = c .before .before .tell in (
+      went (a .table .now) (a .s) (s .pre .0) (a .budget) (a .list .now) some room _ _ (k .last .1 .1 .1 .1 .1 .0) i (a .text .now) (t .last .1 .1 .1 .1 .0) (t .result) (t .ensures) (s .pre .1),
+      stepped (a .table .now) (a .s) (s .pre .0) (a .budget) (a .list .now) some room _ _ (k .last .1 .1 .1 .1 .1 .0) i (a .text .now) (t .last .1 .1 .1 .1 .0) (t .result) (t .ensures),
+    )
 
 same-length-3 : tie.Need-same-length-3
 same-length-3 c = search needs
