@@ -28,7 +28,7 @@ status_of() {
 gives() {
     local wanted=$1 words=$2 status
     shift 2
-    status=$(status_of "$@")
+    status=$(status_of "$@") || fail "$*: $(head -n 3 "$out/stderr")"
     [[ $status -eq $wanted ]] || fail "$*: status $status and not $wanted: $(head -n 3 "$out/stderr")"
     if [[ -n $words ]]; then
         grep -qe "$words" "$out/stderr" || fail "$*: no words \"$words\": $(head -n 3 "$out/stderr")"
@@ -188,7 +188,7 @@ seconds_used() { local TIMEFORMAT='%U %S' && { time "$@" >"$out/stdout" 2>"$out/
 waits() { # COMMAND: hundredths of a second of the processor
     local used
     used=$(seconds_used "$@" | awk '{ printf "%d", 100 * ($1 + $2) }')
-    ((used < 80)) || fail "$*: $used hundredths of a second of work in two seconds of waiting"
+    ((used < 30)) || fail "$*: $used hundredths of a second of work in two seconds of waiting"
     passed
 }
 printf 'p edge 10 1\ne 1 2\n' >"$out/text"
@@ -263,6 +263,7 @@ chmod 711 "$out" && chmod -R a+rX "$copy"
 no_process() {
     local as=()
     ((EUID != 0)) || as=(setpriv --reuid=65534 --regid=65534 --clear-groups)
+    # shellcheck disable=SC2016
     "${as[@]}" bash -c 'ulimit -u 0 && exec "$0" /dev/null' "$copy/layouts"
 }
 gives 1 'fork' no_process
@@ -294,7 +295,8 @@ END
 until_true() { local turn; for ((turn = 0; turn < 200; turn++)); do ! "$@" || return 0; sleep 0.02; done; return 1; }
 has_lines() { [[ $(grep -c '' "$2" 2>/dev/null) == "$1" ]]; }
 gone() { ! kill -0 "$1" 2>/dev/null; }
-clean() { [[ -z $(ls "$TMPDIR") && -z $(find /tmp -maxdepth 1 -name 'vayudrit.*' -newer "$out/began") ]] || fail "left behind: $(ls "$TMPDIR" /tmp)"; }
+is_clean() { [[ -z $(ls "$TMPDIR") && -z $(find /tmp -maxdepth 1 -name 'vayudrit.*' -newer "$out/began") ]]; }
+clean() { is_clean || fail "left behind: $(ls "$TMPDIR" /tmp)"; }
 printf 'p edge 20 6\ne 1 2\ne 1 3\ne 1 4\ne 2 3\ne 2 4\ne 3 4\n' >"$out/silent" # seconds without a line
 : >"$out/began"
 moment() { sleep "0.$((RANDOM % 4))$((RANDOM % 10))"; }
@@ -311,7 +313,7 @@ killed() {
     kill "-$1" "${whom:-$script}"
     wait "$script" || status=$?
     cp "$out/part" "$out/before"
-    [[ -z $program ]] || until_true gone "$program" || fail 'the program runs on'
+    [[ -z $program ]] || until_true gone "$program" || { kill -KILL "$program" && fail 'the program runs on'; }
     [[ $1/$2 == KILL/script ]] || cmp "$out/part" "$out/before" || fail "something is written after $1 to the $2"
     return "$status"
 }
@@ -387,14 +389,17 @@ killed_build() {
     rm -f "$copy/target/bin/layouts" "$copy/running" && echo 30 >"$copy/slow"
     PATH=$copy/path:$PATH env --default-signal=HUP,INT,TERM "$copy/layouts" <examples/triangle.col >"$out/part" 2>/dev/null &
     until_true has_lines 2 "$copy/running"
-    kill "-$1" "$!"
+    whom=$!
+    [[ $2 != shell ]] || whom=$(child_of "$whom")
+    kill "-$1" "$whom"
     wait "$!"
 }
-for signal in HUP/129 INT/130 USR1/138 TERM/143 KILL/137; do
-    gives "${signal#*/}" '' killed_build "${signal%/*}"
+for signal in HUP/129/script INT/130/script USR1/138/script TERM/143/script KILL/137/script KILL/1/shell; do
+    IFS=/ read -r signal status whom <<<"$signal"
+    gives "$status" '' killed_build "$signal" "$whom"
     while read -r process; do until_true gone "$process" || fail 'a process of the build runs on'; done <"$copy/running"
     [[ ! -s $out/part && ! -e $copy/target/bin/layouts ]] || fail 'something is written after the signal'
-    clean
+    until_true is_clean || clean # a shell that was killed waits for nothing
 done
 rm "$copy/slow"
 gives 0 'building' with_rt # the lock is free again
