@@ -13,10 +13,10 @@ Usage: ./layouts FILE
 Reads a DIMACS colouring file and writes every layout of it: every way to give each vertex the
 number 0, 1 or 2 (a shift, a level) so that the two ends of each edge have different numbers.
 
-The file has at most 20 vertices, 64 edges and 32,768 bytes:
+The file has at most 20 vertices, 64 different edges, 4,096 e lines and 32,768 bytes:
     c any words                a comment
-    p edge 3 2                 3 vertices and 2 edges; once, before the edges
-    e 1 2                      vertices 1 and 2 must differ; one line for each edge
+    p edge 3 2                 3 vertices and 2 e lines; once, before the edges
+    e 1 2                      vertices 1 and 2 must differ; "e 2 1" is the same edge, taken once
 
 Standard output: "vars V eqs E"; one line for each layout: its place in the search, its point and
 its digits, vertex 1 first; and the totals with the word "ended". Or one line "refused N line L".
@@ -34,11 +34,12 @@ meaning() { # NUMBER LINE
     10:*) echo 'no known kind of line; there are "c words", "p edge V E" and "e A B", with single spaces, no empty ones, and neither carriage returns nor a byte order mark' ;;
     11:0) echo 'there is no p line' ;;
     11:*) echo 'a second p line, or an e line before the p line' ;;
-    12:*) echo 'vertices not 1 to 20, or edges not 1 to 64' ;;
+    12:*) echo 'vertices not 1 to 20, or edges not 1 to 4,096' ;;
     13:*) echo 'an edge from a vertex to itself, or a vertex that was not declared' ;;
     14:0) echo 'there are fewer e lines than the p line declares' ;;
     14:*) echo 'one e line more than the p line declares' ;;
     15:*) echo 'the text is longer than 32,768 bytes' ;;
+    16:*) echo 'the 65th different edge' ;;
     *) echo 'the file was not taken' ;;
     esac
 }

@@ -33,7 +33,9 @@
  * Each function returns 0, or a refusal. A refusal alters no byte of any buffer. If several apply, the one of the
  * smallest number is returned: each is asked of all arguments before the next. A refusal r is its number, except that
  * of an illegal pair, which also tells the first entry that is none: 3 + 256 * entry, entries being numbered as the
- * monomials are, the constant 0. VAYUDRIT_NUMBER(r) is the number of any r, VAYUDRIT_ENTRY(r) the entry where that is 3.
+ * monomials are, the constant 0; and except those of vayudrit_read_graph, which tell the line: number + 256 * line.
+ * VAYUDRIT_NUMBER(r) is the number of any r, VAYUDRIT_ENTRY(r) the entry where that is 3, VAYUDRIT_LINE(r) the line of a
+ * text.
  */
 #ifndef VAYUDRIT_H
 #define VAYUDRIT_H
@@ -56,6 +58,8 @@ extern "C" {
 #define VAYUDRIT_RECORD_BYTES 360
 #define VAYUDRIT_ANSWER_WORDS 5
 #define VAYUDRIT_ANSWER_BYTES 40
+#define VAYUDRIT_MAX_TEXT_BYTES 32768
+#define VAYUDRIT_GRAPH_WORDS 2
 
 /* What a function returns. */
 #define VAYUDRIT_DONE 0           /* nothing was refused */
@@ -69,9 +73,20 @@ extern "C" {
 #define VAYUDRIT_REFUSED_BUDGET 6 /* the budget is 0 */
 #define VAYUDRIT_REFUSED_LIST 7   /* the list has no entry */
 
-/* A refusal taken apart: its number, 0 where nothing was refused, and for VAYUDRIT_REFUSED_PAIR the illegal entry. */
+/* What vayudrit_read_graph returns, too: the number plus 256 times the line, counted from 1, or 0 where no line applies. */
+#define VAYUDRIT_REFUSED_SHAPE 10  /* a line of no known shape */
+#define VAYUDRIT_REFUSED_ORDER 11  /* a second p line, an e line before the p line, or no p line at the end */
+#define VAYUDRIT_REFUSED_LIMITS 12 /* vertices not 1 to 20, or edges not 1 to 4,096 */
+#define VAYUDRIT_REFUSED_VERTEX 13 /* a vertex not 1 to the declared number, or an edge from a vertex to itself */
+#define VAYUDRIT_REFUSED_COUNT 14  /* the number of e lines is not the declared one */
+#define VAYUDRIT_REFUSED_LONG 15   /* the text is above 32,768 bytes */
+#define VAYUDRIT_REFUSED_EDGES 16  /* the 65th different edge */
+
+/* A refusal taken apart: its number, 0 where nothing was refused; for VAYUDRIT_REFUSED_PAIR the illegal entry; and for
+   vayudrit_read_graph the line. */
 #define VAYUDRIT_NUMBER(r) ((r) % 256)
 #define VAYUDRIT_ENTRY(r) ((r) / 256)
+#define VAYUDRIT_LINE(r) ((r) / 256)
 
 /* Why a search stopped: word 0 of its answer. */
 #define VAYUDRIT_ENDED 0 /* the place is 3^n: every point was examined */
@@ -149,6 +164,18 @@ uint64_t vayudrit_place(uint64_t n, uint64_t point, uint64_t *place, size_t plac
 uint64_t vayudrit_balanced(uint64_t n, uint64_t point, int64_t *number, size_t number_count);
 uint64_t vayudrit_unbalanced(uint64_t n, int64_t number, uint64_t *point, size_t point_words);
 
+/*
+ * The text of a DIMACS graph file as the coefficient table of its edges: lines "c" alone or "c " and any bytes; one line
+ * "p edge V E", then E lines "e A B". An edge is an unordered pair and is taken once, at its first line; later repeats,
+ * either way round, give no equation. Vertex A is unknown A - 1, and each different edge is one equation, in the order of
+ * their first lines, 0 exactly where the two ends differ. words has at least 462 words: the first VAYUDRIT_TABLE_WORDS(n)
+ * are written, the rest stays. told has 2 words: n (vertices) and m (different edges).
+ * Refusals, asked in this order: 15; 2 (fewer than 462 words, or told_words is not 2); then line by line 10, 11, 12, 14,
+ * 13, 16; after the last line 11, 14, which have line 0 as 15 and 2 do.
+ */
+uint64_t vayudrit_read_graph(const uint8_t *text, size_t text_bytes, uint64_t *words, size_t words_count,
+                             uint64_t *told, size_t told_words);
+
 #ifdef __cplusplus
 }
 #endif
@@ -175,5 +202,14 @@ uint64_t vayudrit_unbalanced(uint64_t n, int64_t number, uint64_t *point, size_t
  *   } while (answer[0] != VAYUDRIT_ENDED);
  *
  * lists the points 1, 2, 5, then 3, 7, then 6: with a budget of 4 points it takes three calls.
+ *
+ * EXAMPLE (examples/graph.c): the layouts of a graph file whose text stands in memory.
+ *
+ *   uint64_t words[VAYUDRIT_MAX_TABLE_WORDS], told[VAYUDRIT_GRAPH_WORDS];
+ *   uint64_t r = vayudrit_read_graph(text, length, words, VAYUDRIT_MAX_TABLE_WORDS, told, VAYUDRIT_GRAPH_WORDS);
+ *   if (r != VAYUDRIT_DONE)
+ *       printf("refused %d line %d", (int)VAYUDRIT_NUMBER(r), (int)VAYUDRIT_LINE(r));
+ *
+ * Then n is told[0], m is told[1], and words are the coefficients for vayudrit_differences, as in the example above.
  */
 #endif

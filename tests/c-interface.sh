@@ -24,10 +24,22 @@ for program in first first++; do
     "$out/$program" | diff - examples/first.out
 done
 
+gcc -std=c99 $warn examples/graph.c "$lib" -o "$out/graph"
+g++ -x c++ -std=c++11 $warn examples/graph.c -x none "$lib" -o "$out/graph++"
+for program in graph graph++; do
+    "$out/$program" <examples/sites.col | diff - examples/graph.out
+done
+
 gcc -std=c99 $warn tests/interface.c "$lib" -o "$out/interface"
 gcc -std=c99 -g -fsanitize=address,undefined -Iinclude tests/interface.c "$lib" -o "$out/interface-checked"
 gcc -std=c99 -static $warn tests/interface.c "$lib" -o "$out/interface-static"
 for program in interface interface-checked interface-static; do
     "$out/$program"
 done
+# Graph texts, valid and damaged, against the second program's reader.
+mkdir "$out/texts"
+gcc -std=c99 -O2 -Wall -Wextra -Werror tests/reference/graph_texts.c tests/reference/reference.c -o "$out/graph_texts"
+gcc -std=c99 -g -fsanitize=address,undefined -fno-sanitize-recover=all -Wall -Wextra -Werror -Iinclude tests/reference/graph_compare.c tests/reference/reference.c "$lib" -o "$out/graph_compare"
+"$out/graph_texts" "${SEED:-1}" 1200 "$out/texts"
+"$out/graph_compare" "$out"/texts/*
 echo "the C interface: all as expected"

@@ -283,11 +283,12 @@ done <<'END'
 10|7|line 7: no known kind of line; .*
 11|0|there is no p line
 11|3|line 3: a second p line, or an e line before the p line
-12|1|line 1: vertices not 1 to 20, or edges not 1 to 64
+12|1|line 1: vertices not 1 to 20, or edges not 1 to 4,096
 13|2|line 2: an edge from a vertex to itself, or a vertex that was not declared
 14|0|there are fewer e lines than the p line declares
 14|9|line 9: one e line more than the p line declares
 15|0|the text is longer than 32,768 bytes
+16|66|line 66: the 65th different edge
 END
 
 # ---- signals at random moments: to the script, and to the program ----
@@ -472,10 +473,13 @@ the first text is not written||tail -n +2
 no text after the first is written||head -n 1
 lines are counted from 0||awk '/^refused/ && $4 > 0 { $4-- } 1'
 too few e lines are told at the last line||sed 's/^refused 14 line 0$/refused 14 line 2/'
+repeats are no lines|awk '!(/^e / && seen[$0]++)'|
+edges are counted by lines||awk '/^vars/ { $4++ } 1'
+the 65th different edge is told as a fault of its vertices||sed 's/^refused 16/refused 13/'
 an e line too many is told at the end||sed 's/^refused 14 line .*$/refused 14 line 0/'
 END
 awk -v texts="$texts" '{ count[$1 == "vars" ? 0 : $2]++ }
-    END { for (k = 10; k <= 15; k++) { if (!count[k]) exit 1; refused = refused (k > 10 ? ", " : "") k ": " count[k] }
+    END { for (k = 10; k <= 16; k++) { if (!count[k]) exit 1; refused = refused (k > 10 ? ", " : "") k ": " count[k] }
           printf "layouts: %d texts agree (%d searched, %d refused: %s)\n", texts, count[0], texts - count[0], refused }' \
     < <(head -qn 1 "$out"/expected/*) || fail "a refusal does not occur among the texts of seed $seed"
 echo "layouts: $checks checks passed, $faults planted faults noticed"

@@ -120,7 +120,7 @@ static void append_edge(void) {
     APPEND("e %u %u\n", a + 1, b + 1);
 }
 
-/* Comments anywhere or nowhere; edges in both orders, some twice; the last line feed or not. */
+/* Comments anywhere or nowhere; edges in both orders, many of them again; the last line feed or not. */
 static void write_graph(unsigned n, unsigned m) {
     unsigned comments = ONE_OF(0, 0, 2, 6);
     vertices = n;
@@ -141,7 +141,7 @@ static void write_graph(unsigned n, unsigned m) {
 
 static void write_valid(void) {
     unsigned n = 2 + below(MOST - 1);
-    write_graph(n, ONE_OF(1, 1 + below(n), 1 + below(2 * n), 1 + below(64), 64));
+    write_graph(n, ONE_OF(1, 1 + below(n), 1 + below(2 * n), 1 + below(64), 64, 65, 65 + below(100)));
 }
 
 /* Comments between the lines, so many and so long that the text has so many bytes. */
@@ -180,7 +180,7 @@ enum damage {
     /* of the size */
     LONG_COMMENT, LONG_LINE, FULL_SIZE, ONE_BYTE_ABOVE, FAR_ABOVE,
     /* texts of another origin */
-    ONE_VERTEX, LARGEST, NOTHING, ANY_BYTES, DAMAGES
+    ONE_VERTEX, LARGEST, MANY_EDGES, MANY_LINES, NOTHING, ANY_BYTES, DAMAGES
 };
 
 static void damage_numbers(enum damage kind) {
@@ -211,7 +211,7 @@ static void damage_structure(enum damage kind) {
     at = one_in(4) ? length : some_line("");
     switch (kind) {
     case SECOND_P: insert_format(at, "p edge %u %u\n", vertices, edges); break;
-    case SECOND_P_BAD: insert_format(at, "p edge %u %u\n", ONE_OF(0, 21, a), ONE_OF(0, 65)); break;
+    case SECOND_P_BAD: insert_format(at, "p edge %u %u\n", ONE_OF(0, 21, a), ONE_OF(0, 65, 4097)); break;
     case E_BEFORE_P: insert_format(p, "e %u %u\n", ONE_OF(a, 0), ONE_OF(b, a)); break;
     case NO_P: erase(p, next_line(p) - p); break;
     case EDGE_TOO_MANY: insert_format(e, "e %u %u\n", a, a % vertices + 1); break;
@@ -219,7 +219,7 @@ static void damage_structure(enum damage kind) {
     case EDGE_TOO_FEW: erase(e, next_line(e) - e); break;
     case DECLARED_OTHERWISE: replace_line(p, "p edge %u %u", vertices, 1 + below(64)); break;
     case BAD_VERTICES: replace_line(p, "p edge %u %u", ONE_OF(0, 21, 22, 256 + a), edges); break;
-    case BAD_EDGES: replace_line(p, "p edge %u %u", vertices, ONE_OF(0, 65, 66, 256 + a)); break;
+    case BAD_EDGES: replace_line(p, "p edge %u %u", vertices, ONE_OF(0, 4097, 4098, 9000 + a)); break;
     case LINE_TWICE:
         memcpy(line, text + at, next_line(at) - at);
         insert(some_line(""), line, next_line(at) - at);
@@ -277,6 +277,17 @@ static void write_other(enum damage kind) {
     case LARGEST: /* at the borders and refused for another reason */
         write_graph(ONE_OF(20, 20, 19, 10), ONE_OF(64, 64, 63));
         damage_structure(ONE_OF(SECOND_P, EDGE_TOO_MANY, BAD_EDGE_TOO_MANY, EDGE_TOO_FEW));
+        return;
+    case MANY_EDGES: /* more than 64 different edges, a few repeats before them, and at times another fault after them */
+        write_graph(ONE_OF(12, 13, 20), 130 + below(100));
+        if (one_in(2)) damage_structure(ONE_OF(BAD_EDGE_TOO_MANY, EDGE_TOO_FEW, DECLARED_OTHERWISE));
+        return;
+    case MANY_LINES: /* at the border of 4,096 e lines: all of them, one too many or one too few */
+        vertices = 2 + below(8);
+        length = 0;
+        APPEND("p edge %u 4096\n", vertices);
+        for (unsigned lines = ONE_OF(4096, 4096, 4097, 4095); lines > 0; lines--)
+            append_edge();
         return;
     case NOTHING:
         for (length = 0; one_in(2);)

@@ -430,6 +430,25 @@ static uint64_t colourings(const char *text) {
     return r.answer[ANSWER_FOUND];
 }
 
+/* The different edges of 20 vertices in order, so many of them, and then one more line; what is declared. */
+static const char *edges_then(unsigned count, unsigned declared, const char *last) {
+    static char text[4096];
+    size_t length = (size_t)sprintf(text, "p edge 20 %u\n", declared);
+    for (unsigned a = 1; a <= 20; a++)
+        for (unsigned b = a + 1; b <= 20 && count > 0; b++, count--)
+            length += (size_t)sprintf(text + length, "e %u %u\n", b, a);
+    sprintf(text + length, "%s", last);
+    return text;
+}
+
+/* At most 64 different edges: the 65th is 16, after 13 in its line; a repeat after them is none. */
+static void many_edges(void) {
+    EXPECT(reads(edges_then(64, 64, ""), 0, 0) && reads(edges_then(65, 65, ""), 16, 66));
+    EXPECT(reads(edges_then(64, 65, "e 1 2\n"), 0, 0) && reads(edges_then(64, 66, "e 2 1\ne 20 19"), 16, 67));
+    EXPECT(reads(edges_then(64, 65, "e 20 20"), 13, 66) && reads(edges_then(64, 64, "e 19 20"), 14, 66));
+    EXPECT(reads(edges_then(64, 65, ""), 14, 0) && reads(edges_then(63, 64, "e 19 20"), 0, 0));
+}
+
 static void graphs(void) {
     static uint8_t large[READER_BYTES + 1];
     static const char end[] = "\np edge 2 1\ne 1 2";
@@ -444,6 +463,12 @@ static void graphs(void) {
     EXPECT(colourings("c a triangle\np edge 3 3\ne 1 2\ne 3 2\ne 1 3\n") == 6);
     EXPECT(colourings("p edge 4 6\ne 1 2\ne 1 3\ne 1 4\ne 2 3\ne 2 4\ne 3 4") == 0);
     EXPECT(colourings("p edge 2 2\nc\nc \nc \r\te 9\ne 1 2\ne 1 2\nc") == 6);
+    EXPECT(reference_read((const uint8_t *)"p edge 2 3\ne 2 1\ne 1 2\ne 2 1", 28, words, READER_WORDS, &g) == 0);
+    EXPECT(g.n == 2 && g.m == 1 && memcmp(words, c.words, 12 * sizeof *words) == 0);
+    EXPECT(colourings("p edge 3 6\ne 1 2\ne 2 1\ne 2 3\ne 3 2\ne 3 1\ne 1 3\n") == 6);
+    EXPECT(reads("p edge 2 2\ne 1 2\ne 2 1\ne 1 2", 14, 4) && reads("p edge 2 3\ne 1 2\ne 2 1", 14, 0));
+    EXPECT(reads("p edge 2 3\ne 1 2\ne 2 1\ne 2 2", 13, 4));
+    many_edges();
     EXPECT(reads("", 11, 0) && reads("c\n", 11, 0) && reads("\n", 10, 1));
     EXPECT(reads("p edge 2 1\n\ne 1 2", 10, 2) && reads("c\r\n", 10, 1) && reads("cc", 10, 1));
     EXPECT(reads("c\tx", 10, 1) && reads("p edge 2 1\r\n", 10, 1) && reads("p col 2 1", 10, 1));
@@ -451,8 +476,8 @@ static void graphs(void) {
     EXPECT(reads("p edge 2", 10, 1) && reads("p edge 02 1", 10, 1) && reads("p edge 2 +1", 10, 1));
     EXPECT(reads("p edge 100000 1", 10, 1) && reads("p edge 99999 1", 12, 1));
     EXPECT(reads("p edge 00 1", 10, 1) && reads("p edge 0 1", 12, 1) && reads("p edge 1 0", 12, 1));
-    EXPECT(reads("p edge 21 1", 12, 1) && reads("p edge 20 65", 12, 1));
-    EXPECT(reads("p edge 20 64", 14, 0) && reads("p edge 2 1\n", 14, 0));
+    EXPECT(reads("p edge 21 1", 12, 1) && reads("p edge 20 4097", 12, 1));
+    EXPECT(reads("p edge 20 4096", 14, 0) && reads("p edge 2 1\n", 14, 0));
     EXPECT(reads("e 1 2", 11, 1) && reads("e 1 1\np edge 2 1", 11, 1) && reads("e 1", 10, 1));
     EXPECT(reads("p edge 2 1\nc x\np edge 99 99", 11, 3) && reads("p edge 2 1\np edge 2", 10, 2));
     EXPECT(reads("p edge 2 1\ne 1 3", 13, 2) && reads("p edge 2 1\ne 0 1", 13, 2));

@@ -527,7 +527,16 @@ static char take_line(struct text t, uint64_t *first, uint64_t *second) {
     return 0;
 }
 
-/* "Each e line is one equation, in order: x^2 + xy + y^2 + 2" */
+/* "An edge is an unordered pair. Take it once, at its first line": the number of its first line among the different edges, or m. */
+static unsigned find_edge(const struct system *s, unsigned x, unsigned y) {
+    unsigned e = 0;
+    size_t product = x < y ? product_index(s->n, x, y) : product_index(s->n, y, x);
+    while (e < s->m && s->trit[e][product] == 0)
+        e++;
+    return e;
+}
+
+/* Each different edge is one equation, in the order of their first lines: x^2 + xy + y^2 + 2 */
 static void put_edge(struct system *s, unsigned e, unsigned x, unsigned y) {
     for (size_t k = 0; k < monomials(s->n); k++)
         s->trit[e][k] = 0;
@@ -538,11 +547,12 @@ static void put_edge(struct system *s, unsigned e, unsigned x, unsigned y) {
 }
 
 /* "It asks 15, 2, then lines in order; within a line 10, 11, 12, 14 (one e line too many), 13;
- * at the end 11 (line 0), then 14 (line 0)." */
+ * at the end 11 (line 0), then 14 (line 0)." With C-11 "12 reads 4,096 for 64; new 16, the 65th
+ * different edge, asked after 13 in its line". */
 static uint64_t read_lines(const uint8_t *text, size_t text_len, size_t words_len,
                            struct system *s, uint64_t *line) {
     struct text rest = {text, text + text_len};
-    unsigned edges = 0;
+    uint64_t lines = 0, promised = 0; /* e lines, and how many the p line declares */
     int declared = 0;
     s->n = s->m = 0;
     *line = 0;
@@ -561,19 +571,22 @@ static uint64_t read_lines(const uint8_t *text, size_t text_len, size_t words_le
         if (letter == 0) return 10;
         if ((letter == 'p' && declared) || (letter == 'e' && !declared)) return 11;
         if (letter == 'p') {
-            if (a < 1 || a > MOST_UNKNOWNS || b < 1 || b > MOST_EQUATIONS) return 12;
+            if (a < 1 || a > MOST_UNKNOWNS || b < 1 || b > MOST_EDGE_LINES) return 12;
             declared = 1;
             s->n = (unsigned)a;
-            s->m = (unsigned)b;
+            promised = b;
         } else if (letter == 'e') {
-            if (edges == s->m) return 14;
+            if (lines == promised) return 14;
             if (a < 1 || a > s->n || b < 1 || b > s->n || a == b) return 13;
-            put_edge(s, edges++, (unsigned)a - 1, (unsigned)b - 1); /* "Vertex A is unknown A-1" */
+            lines++;
+            if (find_edge(s, (unsigned)a - 1, (unsigned)b - 1) < s->m) continue;
+            if (s->m == MOST_EQUATIONS) return 16;
+            put_edge(s, s->m++, (unsigned)a - 1, (unsigned)b - 1); /* "Vertex A is unknown A-1" */
         }
     }
     *line = 0;
     if (!declared) return 11;
-    return edges != s->m ? 14 : 0;
+    return lines != promised ? 14 : 0;
 }
 
 uint64_t reference_read(const uint8_t *text, size_t text_len, uint64_t *words, size_t words_len,

@@ -19,7 +19,8 @@ enum {
     RECORD_WORDS = 45,    /* "n, m, place, value, then 20 slots, high before low: 360 bytes" */
     ANSWER_WORDS = 5,     /* "five words in a lent 40 bytes" */
     READER_WORDS = 462,   /* "fewer than 462 words lent to the reader" */
-    READER_BYTES = 32768  /* "text above 32,768 bytes" */
+    READER_BYTES = 32768, /* "text above 32,768 bytes" */
+    MOST_EDGE_LINES = 4096 /* C-11: "may be 1 to 4,096" */
 };
 
 /* Places of the words in a record and in an answer, and the values of the stop. */

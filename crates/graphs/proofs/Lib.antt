@@ -1,3 +1,6 @@
 pub mod ShapeLaw
+pub mod EdgeLaw
 pub mod ReadLaw
 pub mod SoundLaw
+pub mod KeptLaw
+pub mod OnceLaw

@@ -19,7 +19,8 @@ use Rattle.refusals.proofs.RefusalLaw.{done-test, done-next}
 use Rattle.graphs.specs.declared.shapes.Shape.{Shape}
 use Rattle.graphs.specs.declared.shapes.Shape.the-variants.{Comment, Problem, Edge, Unknown}
 use Rattle.graphs.specs.Shapes.{shapeOf}
-use Rattle.graphs.specs.Reading.{verticesMost, edgesMost, Ends, State, start, declared, Turn, on, stop, problemFault, edgeFault, carry, takeLine, graph, refused, endOf, readLines}
+use Rattle.graphs.specs.Reading.{verticesMost, linesMost, State, start, declared, Turn, on, stop, problemFault, edgeFault, fullFault, orElse, carry, takeLine, graph, refused, endOf, readLines}
+use Rattle.graphs.specs.Edges.{Ends, takeOnce}
 use Rattle.graphs.specs.Drawn.{noEnds}
 use Rattle.graphs.specs.Scans.{endsOf, stateIn, foundOf, isRefused}
 
@@ -58,11 +59,11 @@ ends-joined k xs ys a b h l =
     (ap₂ (λ (x y : ℕ). record { one = x; other = y } ∷ []) (getD-set-same xs k a 0 h) (getD-set-same ys k b 0 l))
 
 -- ---- one line
-problem-again : (v e : ℕ) (es : List Ends) (v′ e′ : ℕ) → takeLine (declared v e es) (Problem v′ e′) ≡ stop why.Order
+problem-again : (v e k : ℕ) (es : List Ends) (v′ e′ : ℕ) → takeLine (declared v e k es) (Problem v′ e′) ≡ stop why.Order
 unfolding takeLine
-problem-again v e es v′ e′ = refl
+problem-again v e k es v′ e′ = refl
 
-problem-first : (v e : ℕ) → takeLine start (Problem v e) ≡ carry (problemFault v e) (declared v e [])
+problem-first : (v e : ℕ) → takeLine start (Problem v e) ≡ carry (problemFault v e) (declared v e 0 [])
 unfolding takeLine
 problem-first v e = refl
 
@@ -70,9 +71,9 @@ edge-early : (a b : ℕ) → takeLine start (Edge a b) ≡ stop why.Order
 unfolding takeLine
 edge-early a b = refl
 
-edge-next : (v e : ℕ) (es : List Ends) (a b : ℕ) → takeLine (declared v e es) (Edge a b) ≡ carry (edgeFault v e (length es) a b) (declared v e (es ++ (record { one = a; other = b } ∷ [])))
+edge-next : (v e k : ℕ) (es : List Ends) (a b : ℕ) → takeLine (declared v e k es) (Edge a b) ≡ carry (orElse (edgeFault v e k a b) (fullFault es a b)) (declared v e (k + 1) (takeOnce es a b))
 unfolding takeLine
-edge-next v e es a b = refl
+edge-next v e k es a b = refl
 
 pub take-comment : (s : State) → takeLine s Comment ≡ on s
 unfolding takeLine
@@ -82,47 +83,47 @@ pub take-unknown : (s : State) → takeLine s Unknown ≡ stop why.Shape
 unfolding takeLine
 take-unknown s = refl
 
-module _ {q : Bool} (v e : ℕ) (es : List Ends) where
-  pub second-problem : q ≡ true → (v′ e′ : ℕ) → stop why.Order ≡ takeLine (stateIn q v e es) (Problem v′ e′)
-  second-problem h v′ e′ = rw h (sym (problem-again v e es v′ e′))
+module _ {q : Bool} (v e k : ℕ) (es : List Ends) where
+  pub second-problem : q ≡ true → (v′ e′ : ℕ) → stop why.Order ≡ takeLine (stateIn q v e k es) (Problem v′ e′)
+  second-problem h v′ e′ = rw h (sym (problem-again v e k es v′ e′))
 
-  pub first-problem : q ≡ false → {f : Verdict} (v′ e′ : ℕ) → problemFault v′ e′ ≡ f → carry f (declared v′ e′ []) ≡ takeLine (stateIn q v e es) (Problem v′ e′)
-  first-problem h v′ e′ w = rw h (sym (problem-first v′ e′ ∙ ap (λ (g : Verdict). carry g (declared v′ e′ [])) w))
+  pub first-problem : q ≡ false → {f : Verdict} (v′ e′ : ℕ) → problemFault v′ e′ ≡ f → carry f (declared v′ e′ 0 []) ≡ takeLine (stateIn q v e k es) (Problem v′ e′)
+  first-problem h v′ e′ w = rw h (sym (problem-first v′ e′ ∙ ap (λ (g : Verdict). carry g (declared v′ e′ 0 [])) w))
 
-  pub early-edge : q ≡ false → (a b : ℕ) → stop why.Order ≡ takeLine (stateIn q v e es) (Edge a b)
+  pub early-edge : q ≡ false → (a b : ℕ) → stop why.Order ≡ takeLine (stateIn q v e k es) (Edge a b)
   early-edge h a b = rw h (sym (edge-early a b))
 
-  pub later-edge : q ≡ true → {f : Verdict} (a b : ℕ) → edgeFault v e (length es) a b ≡ f
-      → carry f (declared v e (es ++ (record { one = a; other = b } ∷ []))) ≡ takeLine (stateIn q v e es) (Edge a b)
+  pub later-edge : q ≡ true → {f : Verdict} (a b : ℕ) → edgeFault v e k a b ≡ f
+      → carry (orElse f (fullFault es a b)) (declared v e (k + 1) (takeOnce es a b)) ≡ takeLine (stateIn q v e k es) (Edge a b)
   later-edge h a b w =
-      rw h (sym (edge-next v e es a b ∙ ap (λ (g : Verdict). carry g (declared v e (es ++ (record { one = a; other = b } ∷ [])))) w))
+      rw h (sym (edge-next v e k es a b ∙ ap (λ (g : Verdict). carry (orElse g (fullFault es a b)) (declared v e (k + 1) (takeOnce es a b))) w))
 
   -- the end
-  pub end-early : q ≡ false → refused why.Order 0 ≡ endOf (stateIn q v e es)
+  pub end-early : q ≡ false → refused why.Order 0 ≡ endOf (stateIn q v e k es)
   unfolding endOf
   end-early h = rw h
 
-  pub end-few : q ≡ true → length es < e → refused why.Count 0 ≡ endOf (stateIn q v e es)
+  pub end-few : q ≡ true → k < e → refused why.Count 0 ≡ endOf (stateIn q v e k es)
   unfolding endOf
-  end-few h l = rw (h, lt-ltb (length es) e l)
+  end-few h l = rw (h, lt-ltb k e l)
 
-  pub end-many : q ≡ true → e < length es → refused why.Count 0 ≡ endOf (stateIn q v e es)
+  pub end-many : q ≡ true → e < k → refused why.Count 0 ≡ endOf (stateIn q v e k es)
   unfolding endOf
-  end-many h l = let k : e ≤ length es = omega arith in rw (h, le-ltb (length es) e k, lt-ltb e (length es) l)
+  end-many h l = let j : e ≤ k = omega arith in rw (h, le-ltb k e j, lt-ltb e k l)
 
-  pub end-same : q ≡ true → length es ≡ e → graph v es ≡ endOf (stateIn q v e es)
+  pub end-same : q ≡ true → k ≡ e → graph v es ≡ endOf (stateIn q v e k es)
   unfolding endOf
   end-same h l =
-      let k : e ≤ length es = omega arith in
-      let j : length es ≤ e = omega arith in
-      rw (h, le-ltb (length es) e k, le-ltb e (length es) j)
+      let j : e ≤ k = omega arith in
+      let i : k ≤ e = omega arith in
+      rw (h, le-ltb k e j, le-ltb e k i)
 
 -- ---- what is not refused
 pub record Declares (v e : ℕ) : Type 0 where
   pub v-least : 1 ≤ v
   pub v-most : v ≤ verticesMost
   pub e-least : 1 ≤ e
-  pub e-most : e ≤ edgesMost
+  pub e-most : e ≤ linesMost
 
 pub problem-fine : (v e : ℕ) → problemFault v e ≡ Done → Declares v e
 problem-fine v e h =
@@ -133,7 +134,7 @@ problem-fine v e h =
       v-least = ltb-false _ _ (done-test (ltb v 1) _ _ h);
       v-most = ltb-false _ _ (done-test (ltb verticesMost v) _ _ h2);
       e-least = ltb-false _ _ (done-test (ltb e 1) _ _ h3);
-      e-most = ltb-false _ _ (done-test (ltb edgesMost e) _ _ h4);
+      e-most = ltb-false _ _ (done-test (ltb linesMost e) _ _ h4);
     }
 
 pub record Fitting (v e k a b : ℕ) : Type 0 where
@@ -171,11 +172,11 @@ refused-is Done e s k v es t p u l ls q = let z : _≡_ {A = ℕ} 0 1 = cc in ab
 refused-is (Refused r) e s k v es t p u l ls q = sym (read-stop k u r l ls (sym (p ∙ q)))
 
 -- ---- the states of the reader's own graphs
-pub state-start : {q : Bool} (v e : ℕ) (es : List Ends) → q ≡ false → stateIn q v e es ≡ start
-state-start v e es h = rw h
+pub state-start : {q : Bool} (v e k : ℕ) (es : List Ends) → q ≡ false → stateIn q v e k es ≡ start
+state-start v e k es h = rw h
 
-pub state-is : {q : Bool} {v v′ e e′ : ℕ} {es es′ : List Ends} → q ≡ true → v ≡ v′ → e ≡ e′ → es ≡ es′ → stateIn q v e es ≡ declared v′ e′ es′
-state-is h p r s = rw (h, p, r, s)
+pub state-is : {q : Bool} {v v′ e e′ k k′ : ℕ} {es es′ : List Ends} → q ≡ true → v ≡ v′ → e ≡ e′ → k ≡ k′ → es ≡ es′ → stateIn q v e k es ≡ declared v′ e′ k′ es′
+state-is h p r t s = rw (h, p, r, t, s)
 
 pub ends-none : (k : ℕ) (xs ys : List ℕ) → k ≡ 0 → endsOf k xs ys ≡ []
 unfolding endsOf

@@ -3,7 +3,8 @@ use mathlib.Core.Path.{_≡_}
 use mathlib.Core.List.{List}
 use Prim.Native.Nat.{ℕ, _≤_, _<_}
 use lib.ListN.{length, getD}
-use Rattle.graphs.specs.Reading.{verticesMost, edgesMost, Ends}
+use Rattle.graphs.specs.Edges.{Ends}
+use Rattle.graphs.specs.Reading.{verticesMost, edgesMost}
 
 abbrev pub noEnds : Ends
 noEnds = record { one = 0; other = 0 }

@@ -1,4 +1,5 @@
 pub mod Shapes
+pub mod Edges
 pub mod Reading
 pub mod Scans
 pub mod Drawn

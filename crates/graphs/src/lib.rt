@@ -6,12 +6,14 @@ use lines::find;
 use refusals::Refusal;
 use refusals::Verdict;
 ghost use mathlib.Core.Path.{_≡_};
+ghost use mathlib.Core.List.{[], _∷_, _++_};
 ghost use Prim.Native.Nat.{_+_, _≤_, _<_};
-ghost use lib.ListN.{length, set};
+ghost use lib.Dec.{eqb};
+ghost use lib.ListN.{length, getD, set};
 ghost use Rattle.lines.specs.Lines.{linesOf};
 ghost use Rattle.graphs.specs.Shapes.{shapeOf};
-ghost use Rattle.graphs.specs.Reading.{textMost, edgesMost, problemFault, edgeFault, takeLine, carry, start, endOf, readLines};
-ghost use Rattle.graphs.specs.Scans.{stateOf, scanOf, edgesOf, foundOf, isRefused};
+ghost use Rattle.graphs.specs.Reading.{textMost, verticesMost, linesMost, edgesMost, problemFault, edgeFault, fullFault, takeLine, carry, start, endOf, readLines};
+ghost use Rattle.graphs.specs.Scans.{stateOf, scanOf, edgesOf, foundOf, isRefused, cellOf, Kept, Fits, pairState};
 ghost use Rattle.graphs.specs.declared.shapes.Shape.the-variants.{Edge, Problem};
 
 mod shapes;
@@ -22,17 +24,21 @@ pub const TEXT_MOST: usize = 32768;
 // A graph has at most so many vertices, one for each unknown.
 const VERTICES_MOST: u64 = 20;
 
-// And at most so many edges, one for each equation.
+// A file has at most so many e lines.
+const LINES_MOST: u64 = 4096;
+
+// And at most so many different edges, one for each equation.
 const EDGES_MOST: u64 = 64;
 
-// What the lines so far say: whether there was a p line, its numbers, and both ends of each edge.
+// What the lines so far say: whether there was a p line, its numbers, how many e lines there were, and both ends of each different edge.
 pub struct Graph {
     pub known: bool,
     pub vertices: u64,
     pub edges: u64,
+    pub lines: u64,
     pub count: u64,
-    pub one: [u64; 64],
-    pub other: [u64; 64],
+    pub one: [u8; 64],
+    pub other: [u8; 64],
 }
 
 // The graph after one more line, or why the line is refused.
@@ -50,12 +56,13 @@ pub struct Scan {
 
 // A graph of no edges yet.
 fn fresh(known: bool, vertices: u64, edges: u64) -> Graph
-    ensures { λ r. ⌜ (r .known ≡ known) × (r .vertices ≡ vertices) × (r .edges ≡ edges) × (r .count ≡ 0) ⌝ }
+    ensures { λ r. ⌜ (r .known ≡ known) × (r .vertices ≡ vertices) × (r .edges ≡ edges) × (r .lines ≡ 0) × (r .count ≡ 0) ⌝ }
 {
     Graph {
         known,
         vertices,
         edges,
+        lines: 0,
         count: 0,
         one: [0; 64],
         other: [0; 64],
@@ -75,7 +82,7 @@ fn problem_fault(v: u64, e: u64) -> Verdict
     if e < 1 {
         return Verdict::Refused(Refusal::Limits);
     }
-    if e > EDGES_MOST {
+    if e > LINES_MOST {
         return Verdict::Refused(Refusal::Limits);
     }
     Verdict::Done
@@ -106,21 +113,61 @@ fn edge_fault(v: u64, e: u64, k: u64, a: u64, b: u64) -> Verdict
     Verdict::Done
 }
 
-// The graph with one more edge.
-fn joined(g: Graph, a: u64, b: u64) -> Graph
-    requires { ⌜ g .count < edgesMost ⌝ }
-    ensures { λ r. ⌜ (r .known ≡ g .known) × (r .vertices ≡ g .vertices) × (r .edges ≡ g .edges) × (r .count ≡ g .count + 1)
-        × (r .one ≡ set (g .one) (g .count) a) × (r .other ≡ set (g .other) (g .count) b) ⌝ }
+// Whether there was an edge between a and b.
+fn seen_at(seen: &[u8; 441], a: u64, b: u64) -> bool
+    requires { ⌜ (a ≤ verticesMost) × (b ≤ verticesMost) ⌝ }
+    ensures { λ r. ⌜ r ≡ eqb (getD (now (seen .entry)) (cellOf a b) 0) 1 ⌝ }
 {
-    let k = g.count as usize;
-    let mut one = g.one;
-    one[k] = a;
-    let mut other = g.other;
-    other[k] = b;
+    let k = (21 * a + b) as usize;
+    seen[k] == 1
+}
+
+// The edge between a and b is marked, both ways round.
+fn note(seen: &mut [u8; 441], a: u64, b: u64)
+    requires { ⌜ (a ≤ verticesMost) × (b ≤ verticesMost) ⌝ }
+    ensures { λ _. ⌜ now (seen .exit) ≡ set (set (now (seen .entry)) (cellOf a b) 1) (cellOf b a) 1 ⌝ }
+{
+    let k = (21 * a + b) as usize;
+    let j = (21 * b + a) as usize;
+    seen[k] = 1;
+    seen[j] = 1;
+}
+
+// The graph after a line that gives no new edge.
+fn repeated(g: Graph) -> Graph
+    requires { ⌜ g .lines < linesMost ⌝ }
+    ensures { λ r. ⌜ (r .known ≡ g .known) × (r .vertices ≡ g .vertices) × (r .edges ≡ g .edges) × (r .lines ≡ g .lines + 1) × (r .count ≡ g .count)
+        × (r .one ≡ g .one) × (r .other ≡ g .other) ⌝ }
+{
+    let one = g.one;
+    let other = g.other;
     Graph {
         known: g.known,
         vertices: g.vertices,
         edges: g.edges,
+        lines: g.lines + 1,
+        count: g.count,
+        one,
+        other,
+    }
+}
+
+// The graph with one more edge.
+fn joined(g: Graph, a: u64, b: u64) -> Graph
+    requires { ⌜ (g .lines < linesMost) × (g .count < edgesMost) × (a ≤ verticesMost) × (b ≤ verticesMost) ⌝ }
+    ensures { λ r. ⌜ (r .known ≡ g .known) × (r .vertices ≡ g .vertices) × (r .edges ≡ g .edges) × (r .lines ≡ g .lines + 1) × (r .count ≡ g .count + 1)
+        × (edgesOf r ≡ edgesOf g ++ (record { one = a; other = b } ∷ [])) ⌝ }
+{
+    let k = g.count as usize;
+    let mut one = g.one;
+    one[k] = a as u8;
+    let mut other = g.other;
+    other[k] = b as u8;
+    Graph {
+        known: g.known,
+        vertices: g.vertices,
+        edges: g.edges,
+        lines: g.lines + 1,
         count: g.count + 1,
         one,
         other,
@@ -128,9 +175,9 @@ fn joined(g: Graph, a: u64, b: u64) -> Graph
 }
 
 // A p line.
-fn take_problem(g: Graph, v: u64, e: u64) -> Taken
-    requires { ⌜ g .edges ≤ edgesMost ⌝ }
-    ensures { λ r. ⌜ (carry (r .verdict) (stateOf (r .graph)) ≡ takeLine (stateOf g) (Problem v e)) × (r .graph .edges ≤ edgesMost) ⌝ }
+fn take_problem(g: Graph, seen: &[u8; 441], v: u64, e: u64) -> Taken
+    requires { ⌜ Kept g (now seen) ⌝ }
+    ensures { λ r. ⌜ (carry (r .verdict) (stateOf (r .graph)) ≡ takeLine (stateOf g) (Problem v e)) × Kept (r .graph) (now (seen .entry)) ⌝ }
 {
     if g.known {
         let again = Verdict::Refused(Refusal::Order);
@@ -155,10 +202,37 @@ fn take_problem(g: Graph, v: u64, e: u64) -> Taken
     }
 }
 
+// An edge that fits: a repeat gives nothing new, a new one needs room.
+fn take_pair(g: Graph, seen: &mut [u8; 441], a: u64, b: u64) -> Taken
+    requires { ⌜ Kept g (now seen) × Fits g a b ⌝ }
+    ensures { λ r. ⌜ (carry (r .verdict) (stateOf (r .graph)) ≡ carry (fullFault (edgesOf g) a b) (pairState g a b)) × Kept (r .graph) (now (seen .exit)) ⌝ }
+{
+    if seen_at(seen, a, b) {
+        let same = repeated(g);
+        return Taken {
+            verdict: Verdict::Done,
+            graph: same,
+        };
+    }
+    if g.count >= EDGES_MOST {
+        let full = Verdict::Refused(Refusal::Edges);
+        return Taken {
+            verdict: full,
+            graph: g,
+        };
+    }
+    note(seen, a, b);
+    let more = joined(g, a, b);
+    Taken {
+        verdict: Verdict::Done,
+        graph: more,
+    }
+}
+
 // An e line.
-fn take_edge(g: Graph, a: u64, b: u64) -> Taken
-    requires { ⌜ g .edges ≤ edgesMost ⌝ }
-    ensures { λ r. ⌜ (carry (r .verdict) (stateOf (r .graph)) ≡ takeLine (stateOf g) (Edge a b)) × (r .graph .edges ≤ edgesMost) ⌝ }
+fn take_edge(g: Graph, seen: &mut [u8; 441], a: u64, b: u64) -> Taken
+    requires { ⌜ Kept g (now seen) ⌝ }
+    ensures { λ r. ⌜ (carry (r .verdict) (stateOf (r .graph)) ≡ takeLine (stateOf g) (Edge a b)) × Kept (r .graph) (now (seen .exit)) ⌝ }
 {
     if !g.known {
         let early = Verdict::Refused(Refusal::Order);
@@ -167,26 +241,20 @@ fn take_edge(g: Graph, a: u64, b: u64) -> Taken
             graph: g,
         };
     }
-    let f = edge_fault(g.vertices, g.edges, g.count, a, b);
+    let f = edge_fault(g.vertices, g.edges, g.lines, a, b);
     match f {
         Verdict::Refused(w) => Taken {
             verdict: Verdict::Refused(w),
             graph: g,
         },
-        Verdict::Done => {
-            let h = joined(g, a, b);
-            Taken {
-                verdict: Verdict::Done,
-                graph: h,
-            }
-        }
+        Verdict::Done => take_pair(g, seen, a, b),
     }
 }
 
 // One line.
-fn take_line(g: Graph, line: &[u8]) -> Taken
-    requires { ⌜ g .edges ≤ edgesMost ⌝ }
-    ensures { λ r. ⌜ (carry (r .verdict) (stateOf (r .graph)) ≡ takeLine (stateOf g) (shapeOf (now (line .entry)))) × (r .graph .edges ≤ edgesMost) ⌝ }
+fn take_line(g: Graph, seen: &mut [u8; 441], line: &[u8]) -> Taken
+    requires { ⌜ Kept g (now seen) ⌝ }
+    ensures { λ r. ⌜ (carry (r .verdict) (stateOf (r .graph)) ≡ takeLine (stateOf g) (shapeOf (now (line .entry)))) × Kept (r .graph) (now (seen .exit)) ⌝ }
 {
     let s = shape_of(line);
     match s {
@@ -194,8 +262,8 @@ fn take_line(g: Graph, line: &[u8]) -> Taken
             verdict: Verdict::Done,
             graph: g,
         },
-        Shape::Problem { vertices, edges } => take_problem(g, vertices, edges),
-        Shape::Edge { one, other } => take_edge(g, one, other),
+        Shape::Problem { vertices, edges } => take_problem(g, seen, vertices, edges),
+        Shape::Edge { one, other } => take_edge(g, seen, one, other),
         Shape::Unknown => Taken {
             verdict: Verdict::Refused(Refusal::Shape),
             graph: g,
@@ -220,10 +288,10 @@ fn end_fault(g: Graph) -> Verdict
     if !g.known {
         return Verdict::Refused(Refusal::Order);
     }
-    if g.count < g.edges {
+    if g.lines < g.edges {
         return Verdict::Refused(Refusal::Count);
     }
-    if g.edges < g.count {
+    if g.edges < g.lines {
         return Verdict::Refused(Refusal::Count);
     }
     Verdict::Done
@@ -235,11 +303,12 @@ pub fn read_lines(text: &[u8]) -> Scan
     ensures { λ r. ⌜ scanOf r ≡ readLines 1 start (linesOf (now (text .entry))) ⌝ }
 {
     let mut g = fresh(false, 0, 0);
+    let mut seen = [0u8; 441];
     let mut at: usize = 0;
     let mut line: u64 = 1;
     while at < text.len() {
         let end = at + find(&text[at..], 10);
-        let taken = take_line(g, &text[at..end]);
+        let taken = take_line(g, &mut seen, &text[at..end]);
         let verdict = taken.verdict;
         let graph = taken.graph;
         if refused(verdict) {

@@ -1,10 +1,12 @@
 -- A text is its first line and the text after it.
 use mathlib.Core.Path.{_≡_, refl, ap, _∙_}
+use mathlib.Core.Bool.{Bool, true, false}
 use mathlib.Core.List.{List, [], _∷_}
 use mathlib.Core.Logic.{by-cases}
-use Prim.Native.Nat.{ℕ, suc, _+_, _-_, _<_}
+use Prim.Native.Nat.{ℕ, suc, _+_, _-_, _≤_, _<_}
 use native.Mathlib.Decide.{ℕ-discrete}
 use native.Mathlib.Omega.{arith}
+use lib.Dec.{eqb}
 use lib.ListN.{length, getD, take, drop}
 use lib.Seq.{drop-cons, drop-drop}
 use borrow.Author.Tests.{eq-eqb, ne-eqb}
@@ -52,3 +54,17 @@ lines-at s i f h e =
 pub lines-none : linesOf [] ≡ []
 unfolding linesOf
 lines-none = refl
+
+-- no more lines than bytes
+pub lines-few : (t : List ℕ) → length (linesOf t) ≤ length t
+unfolding linesOf
+lines-few [] = omega arith
+lines-few (x ∷ t) = by-test (eqb x 10) (linesOf t) (length t) (lines-few t)
+  where
+    grown : (ls : List (List ℕ)) → length (grow x ls) ≤ suc (length ls)
+    grown [] = omega arith
+    grown (s ∷ ls) = omega arith
+
+    by-test : (q : Bool) (ls : List (List ℕ)) (n : ℕ) → length ls ≤ n → length {A = List ℕ} (elim q [ true ↦ [] ∷ ls | false ↦ grow x ls ]) ≤ suc n
+    by-test true ls n h = omega arith
+    by-test false ls n h = omega (arith, grown ls, h)

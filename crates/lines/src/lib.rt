@@ -30,7 +30,8 @@ pub fn find(bytes: &[u8], b: u8) -> usize
     i
 }
 
-fn wide(x: u8) -> u64
+// A byte as a number.
+pub fn wide(x: u8) -> u64
     ensures { λ r. ⌜ r ≡ x ⌝ }
 {
     x as u64

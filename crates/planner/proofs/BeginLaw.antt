@@ -20,12 +20,14 @@ use Rattle.tables.specs.Words.{Table, legalFront, wordsOf, differencesOf}
 use Rattle.tables.specs.Answers.{long, paired, checkedOf, copyVerdict, differencesAfter}
 use Rattle.tables.proofs.WordLaw.{front-whole, words-table}
 use Rattle.tables.proofs.RoundLaw.{differences-table}
-use Rattle.graphs.specs.Reading.{Ends, Outcome, graph, refused, outcomeOf}
+use Rattle.graphs.specs.Edges.{Ends}
+use Rattle.graphs.specs.Reading.{Outcome, graph, refused, outcomeOf}
 use Rattle.graphs.specs.Drawn.{Drawn}
 use Rattle.graphs.proofs.SoundLaw.{text-drawn}
 use Rattle.reader.specs.declared.ReadAnswer.the-variants as answer
 use Rattle.reader.specs.Equations.{systemOf}
 use Rattle.reader.specs.Answers.{answerOf, wordsAfter}
+use Rattle.reader.proofs.AnswerLaw.{graph-is, refused-is}
 use Rattle.walks.specs.Calls.{zerosIn, costIn}
 use Rattle.opening.specs.declared.Opened.{Opened}
 use Rattle.opening.specs.Opened.{openedAt, noRecord, openVerdict, openOf}
@@ -97,24 +99,16 @@ module _ (n m : ℕ) (words old : List ℕ) (h : Startable n m words old) where
         }
 
 -- ---- what was read
-answer-graph : (o : Outcome) (n m : ℕ) → answerOf o ≡ answer.Graph n m → (es : List Ends) × (o ≡ graph n es) × (length es ≡ m)
-answer-graph (graph v es) n m e = let p : v ≡ n = cc in let q : length es ≡ m = cc in (es, ap (λ (x : ℕ). graph x es) p, q)
-answer-graph (refused r k) n m e = absurd (let z : _≡_ {A = ℕ} 0 1 = cc in omega arith)
-
-answer-refused : (o : Outcome) (r : Refusal) (k : ℕ) → answerOf o ≡ answer.Refused r k → o ≡ refused r k
-answer-refused (graph v es) r k e = absurd (let z : _≡_ {A = ℕ} 0 1 = cc in omega arith)
-answer-refused (refused f j) r k e = let p : f ≡ r = cc in let q : j ≡ k = cc in ap₂ (λ (x : Refusal) (y : ℕ). refused x y) p q
-
 -- a refusal is the whole output
 pub begun-refused : (input table b : List ℕ) (f : Refusal) (number line : ℕ) (r : Session) → answer.Refused f line ≡ answerOf (outcomeOf input 462)
     → number ≡ numberOf f → Refuses number line b r → Begun input table b r
 unfolding outputOf toldOf leftOf
 begun-refused input table b f number line r e q h =
     record {
-      output = ap writtenFor (answer-refused (outcomeOf input 462) f line (sym e)) ∙ ap (λ (x : ℕ). refusalLine x line) (sym q) ∙ sym (h .bytes)
+      output = ap writtenFor (refused-is (outcomeOf input 462) f line (sym e)) ∙ ap (λ (x : ℕ). refusalLine x line) (sym q) ∙ sym (h .bytes)
           ∙ sym (append-none (take (r .used) b))
           ∙ ap (λ (x : Bool). take (r .used) b ++ leftIf x (leftFrom (r .n) (trailOf (r .n) (r .m) (take (2 * countOf (r .n)) table)) (r .points))) (sym (h .over));
-      told = ap toldFor (answer-refused (outcomeOf input 462) f line (sym e)) ∙ ap (λ (x : ℕ). refusalLine x line) (sym q) ∙ sym (h .bytes)
+      told = ap toldFor (refused-is (outcomeOf input 462) f line (sym e)) ∙ ap (λ (x : ℕ). refusalLine x line) (sym q) ∙ sym (h .bytes)
           ∙ ap (λ (x : Bool). toldWhen x (take (r .used) b)) (sym (h .over));
       standing = λ o. absurd (true≢false (sym o ∙ h .over));
       used = h .used;
@@ -135,7 +129,7 @@ left-graph input v es e =
 
 module _ (input : List ℕ) (n m : ℕ) (e : answer.Graph n m ≡ answerOf (outcomeOf input 462)) where
   abbrev found : (es : List Ends) × (outcomeOf input 462 ≡ graph n es) × (length es ≡ m)
-  found = answer-graph (outcomeOf input 462) n m (sym e)
+  found = graph-is (outcomeOf input 462) n m (sym e)
 
   drawn : Drawn n (found .0)
   drawn = text-drawn input 462 n (found .0) (found .1)

@@ -15,7 +15,8 @@ use Rattle.polynomials.proofs.FormLaw.{half-three}
 use Rattle.tables.specs.Words.{polyAt, wordsOf, differencesOf}
 use Rattle.tables.proofs.AgreeLaw.{Agree, agree-trans, back-agree, back-of-table}
 use Rattle.tables.proofs.RoundLaw.{words-agree, differences-hold}
-use Rattle.graphs.specs.Reading.{Ends, graph, outcomeOf}
+use Rattle.graphs.specs.Edges.{Ends}
+use Rattle.graphs.specs.Reading.{graph, outcomeOf}
 use Rattle.graphs.specs.Drawn.{noEnds}
 use Rattle.reader.specs.Equations.{systemOf}
 use Rattle.reader.proofs.ColourLaw.{colours}

@@ -10,7 +10,8 @@ use Rattle.refusals.specs.Refusal.{numberOf}
 use Rattle.gray.specs.Numbers.{pointDigit, pointOf}
 use Rattle.tables.specs.Monomials.{countOf}
 use Rattle.tables.specs.Answers.{checkedOf}
-use Rattle.graphs.specs.Reading.{wordsLeast, Ends, Outcome, graph, refused, outcomeOf}
+use Rattle.graphs.specs.Edges.{Ends}
+use Rattle.graphs.specs.Reading.{wordsLeast, Outcome, graph, refused, outcomeOf}
 use Rattle.walks.specs.Calls.{Trail, listed, zerosIn, costIn, pointsIn, listAfter}
 use Rattle.search.specs.Search.{trailOf}
 use Rattle.opening.specs.Opened.{openedAt}

@@ -6,13 +6,14 @@ use Rattle.tables.specs.Monomials.{countOf, productNth, nth}
 use Rattle.tables.specs.Words.{tabled, wordsOf}
 use Rattle.lines.specs.Lines.{firstOf, decimalFrom, pairIn, starts, linesOf}
 use Rattle.graphs.specs.Shapes.{shapeOf}
+use Rattle.graphs.specs.Edges.{hasEdge, takeOnce}
 use Rattle.graphs.specs.Reading.{takeLine, endOf, readLines, outcomeOf}
 use Rattle.reader.specs.Equations.{isEnd, edgePoly, systemOf}
 use Rattle.reader.specs.Answers.{wordsAfter}
 use Rattle.reader.specs.Cases.{Cases}
 
 pub cases : Cases
-unfolding same ofTrits fromBits countOf productNth nth tabled wordsOf firstOf decimalFrom pairIn starts shapeOf linesOf takeLine endOf readLines outcomeOf isEnd edgePoly systemOf wordsAfter
+unfolding same ofTrits fromBits countOf productNth nth tabled wordsOf firstOf decimalFrom pairIn starts shapeOf linesOf hasEdge takeOnce takeLine endOf readLines outcomeOf isEnd edgePoly systemOf wordsAfter
 cases =
     record {
       read = refl;
@@ -30,6 +31,10 @@ cases =
       vertex-none = refl;
       vertex-past = refl;
       loop = refl;
+      again = refl;
+      turned = refl;
+      lines = refl;
+      more-lines = refl;
       many = refl;
       few = refl;
       limits = refl;

@@ -2,7 +2,7 @@
 use mathlib.Core.Path.{_≡_, refl, sym, ap, ap₂, _∙_}
 use mathlib.Core.Bool.{true, false, not}
 use mathlib.Core.List.{List}
-use mathlib.Core.Logic.{_↔_, by-cases}
+use mathlib.Core.Logic.{_↔_, ⊎-elim, by-cases}
 use Prim.Native.Nat.{ℕ, zero, suc, _+_, _-_, _*_, _%_, _<_}
 use native.Mathlib.Decide.{decLt, ℕ-discrete}
 use native.Mathlib.Omega.{arith}
@@ -12,8 +12,12 @@ use borrow.Author.Tests.{eq-eqb, ne-eqb, eqb-true, not-true}
 use Rattle.residues.specs.Sums.{sum, same}
 use Rattle.residues.proofs.SumLaw.{same-self, same-other, sum-ext, sum-zero, sum-scale, sum-both, sum-one}
 use Rattle.polynomials.specs.Poly.{Poly, valueOf}
-use Rattle.graphs.specs.Reading.{Ends, graph, outcomeOf}
-use Rattle.graphs.specs.Drawn.{noEnds}
+use Rattle.lines.specs.Lines.{linesOf}
+use Rattle.graphs.specs.Edges.{Ends, hasEdge}
+use Rattle.graphs.specs.Reading.{graph, outcomeOf, edgeLines}
+use Rattle.graphs.specs.Drawn.{noEnds, Edged}
+use Rattle.graphs.proofs.EdgeLaw.{meets-ends, has-own, has-among}
+use Rattle.graphs.proofs.OnceLaw.{text-has}
 use Rattle.graphs.proofs.SoundLaw.{text-drawn}
 use Rattle.reader.specs.Equations.{isEnd, edgePoly, systemOf}
 use Rattle.reader.proofs.WriteLaw.{edge-swap}
@@ -138,22 +142,88 @@ unfolding systemOf
 system-is es e = refl
 
 -- ---- what the reader is for
--- a point is a common zero of the equations of a text that is read exactly if the two ends of every edge have different digits
-pub colours : (t : List ℕ) (w v : ℕ) (es : List Ends) → outcomeOf t w ≡ graph v es → (x : ℕ → ℕ) → ((i : ℕ) → x i < 3)
-    → ((e : ℕ) → e < length es → valueOf (systemOf es e) v x % 3 ≡ 0)
-    ↔ ((e : ℕ) → e < length es → x (getD es e noEnds .one - 1) ≡ x (getD es e noEnds .other - 1) → ⊥)
-colours t w v es r x small = (
-  (λ z e h. edge-zero _ _ (small _) (small _) .0 (ap (λ (y : ℕ). y % 3) (sym (value e h)) ∙ z e h)),
-  (λ d e h. ap (λ (y : ℕ). y % 3) (value e h) ∙ edge-zero _ _ (small _) (small _) .1 (d e h)),
-)
+-- a common zero of the equations of a list of edges, one for each
+abbrev pub Zero : List Ends → ℕ → (ℕ → ℕ) → Type 0
+Zero es v x = (e : ℕ) → e < length es → valueOf (systemOf es e) v x % 3 ≡ 0
+
+-- the ends of every edge of a list have different digits, and of every edge of its set
+abbrev pub Apart : List Ends → (ℕ → ℕ) → Type 0
+Apart es x = (e : ℕ) → e < length es → x (getD es e noEnds .one - 1) ≡ x (getD es e noEnds .other - 1) → ⊥
+
+abbrev pub Differs : List Ends → (ℕ → ℕ) → Type 0
+Differs es x = (a b : ℕ) → hasEdge es a b ≡ true → x (a - 1) ≡ x (b - 1) → ⊥
+
+abbrev Each : ℕ → List Ends → Type 0
+Each v es = (e : ℕ) → e < length es → Edged v (getD es e noEnds)
+
+module _ (v : ℕ) (x : ℕ → ℕ) (small : (i : ℕ) → x i < 3) where
+  zero-apart : (es : List Ends) → Each v es → Zero es v x ↔ Apart es x
+  zero-apart es each = (
+    (λ z e h. edge-zero _ _ (small _) (small _) .0 (ap (λ (y : ℕ). y % 3) (sym (value e h)) ∙ z e h)),
+    (λ d e h. ap (λ (y : ℕ). y % 3) (value e h) ∙ edge-zero _ _ (small _) (small _) .1 (d e h)),
+  )
+    where
+      value : (e : ℕ) → e < length es → valueOf (systemOf es e) v x
+          ≡ x (getD es e noEnds .one - 1) * x (getD es e noEnds .one - 1) + x (getD es e noEnds .one - 1) * x (getD es e noEnds .other - 1)
+          + x (getD es e noEnds .other - 1) * x (getD es e noEnds .other - 1) + 2
+      value e h =
+          let p = getD es e noEnds in
+          let g = each e h in
+          let d = g .apart in
+          ap (λ (f : Poly). valueOf f v x) (system-is es e)
+          ∙ edge-value x v (p .one - 1) (p .other - 1) (omega (arith, g .one-least, g .one-most)) (omega (arith, g .other-least, g .other-most))
+          (λ q. d (omega (arith, g .one-least, g .other-least)))
+
+  -- the edges of a list and those of its set
+  apart-differs : (es : List Ends) → Apart es x ↔ Differs es x
+  apart-differs es = (
+    (λ d a b h q.
+        let m = has-among es a b h in
+        ⊎-elim
+        (λ e. d (m .place) (m .within) (ap (λ (k : ℕ). x (k - 1)) (e .0) ∙ q ∙ sym (ap (λ (k : ℕ). x (k - 1)) (e .1))))
+        (λ e. d (m .place) (m .within) (ap (λ (k : ℕ). x (k - 1)) (e .0) ∙ sym q ∙ sym (ap (λ (k : ℕ). x (k - 1)) (e .1))))
+        (meets-ends (getD es (m .place) noEnds) a b (m .met))),
+    (λ d e h. d (getD es e noEnds .one) (getD es e noEnds .other) (has-own es e h)),
+  )
+
+  zero-differs : (es : List Ends) → Each v es → Zero es v x ↔ Differs es x
+  zero-differs es each = ((λ z. apart-differs es .0 (zero-apart es each .0 z)), (λ d. zero-apart es each .1 (apart-differs es .1 d)))
+
+  -- two lists of the same set
+  differs-same : (es xs : List Ends) → ((a b : ℕ) → hasEdge xs a b ≡ hasEdge es a b) → Differs es x → Differs xs x
+  differs-same es xs s d a b h = d a b (sym (s a b) ∙ h)
+
+-- what meets an edge between two of v vertices is one
+each-same : (v : ℕ) (es xs : List Ends) → ((a b : ℕ) → hasEdge xs a b ≡ hasEdge es a b) → Each v es → Each v xs
+each-same v es xs s each e h =
+    let y = getD xs e noEnds in
+    let m = has-among es (y .one) (y .other) (sym (s (y .one) (y .other)) ∙ has-own xs e h) in
+    let g = each (m .place) (m .within) in
+    ⊎-elim (λ q. straight (getD es (m .place) noEnds) y g (q .0) (q .1)) (λ q. turned (getD es (m .place) noEnds) y g (q .0) (q .1)) (meets-ends (getD es (m .place) noEnds) (y .one) (y .other) (m .met))
   where
-    value : (e : ℕ) → e < length es → valueOf (systemOf es e) v x
-        ≡ x (getD es e noEnds .one - 1) * x (getD es e noEnds .one - 1) + x (getD es e noEnds .one - 1) * x (getD es e noEnds .other - 1)
-        + x (getD es e noEnds .other - 1) * x (getD es e noEnds .other - 1) + 2
-    value e h =
-        let p = getD es e noEnds in
-        let g = text-drawn t w v es r .each e h in
-        let d = g .apart in
-        ap (λ (f : Poly). valueOf f v x) (system-is es e)
-        ∙ edge-value x v (p .one - 1) (p .other - 1) (omega (arith, g .one-least, g .one-most)) (omega (arith, g .other-least, g .other-most))
-        (λ q. d (omega (arith, g .one-least, g .other-least)))
+    straight : (w y : Ends) → Edged v w → w .one ≡ y .one → w .other ≡ y .other → Edged v y
+    straight w y g p q =
+        let n = g .apart in
+        record { one-least = omega (arith, p, g .one-least); one-most = omega (arith, p, g .one-most); other-least = omega (arith, q, g .other-least); other-most = omega (arith, q, g .other-most); apart = λ e. n (p ∙ e ∙ sym q) }
+
+    turned : (w y : Ends) → Edged v w → w .one ≡ y .other → w .other ≡ y .one → Edged v y
+    turned w y g p q =
+        let n = g .apart in
+        record { one-least = omega (arith, q, g .other-least); one-most = omega (arith, q, g .other-most); other-least = omega (arith, p, g .one-least); other-most = omega (arith, p, g .one-most); apart = λ e. n (p ∙ sym e ∙ sym q) }
+
+module _ (t : List ℕ) (w v : ℕ) (es : List Ends) (r : outcomeOf t w ≡ graph v es) (x : ℕ → ℕ) (small : (i : ℕ) → x i < 3) where
+  -- a point is a common zero of the equations of a text that is read exactly if the two ends of every edge have different digits
+  pub colours : Zero es v x ↔ Apart es x
+  colours = zero-apart v x small es (text-drawn t w v es r .each)
+
+  -- the same over the set of edges
+  pub colours-set : Zero es v x ↔ Differs es x
+  colours-set = zero-differs v x small es (text-drawn t w v es r .each)
+
+  -- with an equation for every e line, repeats and all, the zeros are the same
+  pub repeats : Zero (edgeLines (linesOf t)) v x ↔ Zero es v x
+  repeats =
+      let xs = edgeLines (linesOf t) in
+      let s = text-has t w v es r in
+      let b = zero-differs v x small xs (each-same v es xs (λ a b. sym (s a b)) (text-drawn t w v es r .each)) in
+      ((λ z. colours-set .1 (differs-same v x small xs es s (b .0 z))), (λ z. b .1 (differs-same v x small es xs (λ a b. sym (s a b)) (colours-set .0 z))))

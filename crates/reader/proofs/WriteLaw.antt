@@ -25,7 +25,7 @@ use Rattle.tables.specs.Words.{entry, putAt, tabled, wordsOf}
 use Rattle.tables.proofs.IndexLaw.{index-lt}
 use Rattle.tables.proofs.MonomialLaw.{nth-const, nth-lin, nth-quad, nth-ext, by-monomial}
 use Rattle.tables.proofs.WordLaw.{is-tabled, entry-words, length-tabled, words-ext}
-use Rattle.graphs.specs.Reading.{Ends}
+use Rattle.graphs.specs.Edges.{Ends}
 use Rattle.graphs.specs.Drawn.{noEnds}
 use Rattle.reader.specs.Equations.{isEnd, edgePoly, systemOf}
 use Rattle.reader.specs.Parts.{Marked}

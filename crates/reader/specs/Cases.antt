@@ -11,6 +11,10 @@ use Rattle.reader.specs.declared.ReadAnswer.the-variants as answer
 abbrev pub problem : List ℕ → List ℕ
 problem t = 112 ∷ 32 ∷ 101 ∷ 100 ∷ 103 ∷ 101 ∷ 32 ∷ 50 ∷ 32 ∷ 49 ∷ 10 ∷ t
 
+-- "p edge 2 E", with one digit
+abbrev pub declared : ℕ → List ℕ → List ℕ
+declared e t = 112 ∷ 32 ∷ 101 ∷ 100 ∷ 103 ∷ 101 ∷ 32 ∷ 50 ∷ 32 ∷ e ∷ 10 ∷ t
+
 abbrev pub edge : ℕ → ℕ → List ℕ → List ℕ
 edge a b t = 101 ∷ 32 ∷ a ∷ 32 ∷ b ∷ 10 ∷ t
 
@@ -40,6 +44,11 @@ pub record Cases : Type 0 where
   pub vertex-none : outcome (problem (edge 48 49 [])) ≡ refused why.Vertex 2
   pub vertex-past : outcome (problem (edge 49 51 [])) ≡ refused why.Vertex 2
   pub loop : outcome (problem (edge 49 49 [])) ≡ refused why.Vertex 2
+  -- the same edge again, and the other way round, gives no equation; the declared number is that of the lines
+  pub again : answerOf (outcome (declared 50 (edge 49 50 (edge 49 50 [])))) ≡ answer.Graph 2 1
+  pub turned : wordsAfter (outcome (declared 51 (edge 49 50 (edge 50 49 (edge 49 50 []))))) [] ≡ wordsAfter (outcome (problem (edge 49 50 []))) []
+  pub lines : outcome (problem (edge 49 50 (edge 50 49 []))) ≡ refused why.Count 3
+  pub more-lines : outcome (declared 51 (edge 49 50 (edge 50 49 []))) ≡ refused why.Count 0
   -- one e line too many, and one too few; the count comes before the vertices
   pub many : outcome (problem (edge 49 50 (edge 49 49 []))) ≡ refused why.Count 3
   pub few : outcome (problem []) ≡ refused why.Count 0

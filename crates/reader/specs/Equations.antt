@@ -4,7 +4,7 @@ use Prim.Native.Nat.{ℕ, _+_, _-_, _*_}
 use lib.ListN.{getD}
 use Rattle.residues.specs.Sums.{same}
 use Rattle.polynomials.specs.Poly.{Poly}
-use Rattle.graphs.specs.Reading.{Ends}
+use Rattle.graphs.specs.Edges.{Ends}
 use Rattle.graphs.specs.Drawn.{noEnds}
 
 -- 1 where unknown i is one of a and b

@@ -1,5 +1,6 @@
 // The coefficient words of a graph: one equation for each edge.
 use graphs::Graph;
+use lines::wide;
 use tables::index;
 use trits::Vector;
 use trits::with_trit;
@@ -71,8 +72,8 @@ pub(crate) fn write(table: &mut [u64], g: Graph)
     let mut e: u64 = 0;
     while e < g.count {
         let k = e as usize;
-        let a = g.one[k];
-        let b = g.other[k];
+        let a = wide(g.one[k]);
+        let b = wide(g.other[k]);
         let low = lesser(a, b) as usize;
         let high = greater(a, b) as usize;
         put_edge(table, n, low - 1, high - 1, e);

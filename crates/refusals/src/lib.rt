@@ -1,6 +1,7 @@
 // Document 01's limits, and why an operation refuses: one case for each of its numbers.
 ghost use mathlib.Core.Path.{_≡_};
 ghost use mathlib.Core.Logic.{_↔_};
+ghost use Prim.Native.Nat.{_<_, _^_};
 ghost use mathlib.Core.Bool.{true};
 ghost use Rattle.refusals.specs.Limits.{Unknowns, Within};
 ghost use Rattle.refusals.specs.Refusal.{numberOf, codeOf};
@@ -75,11 +76,13 @@ pub enum Refusal {
     Count,
     // The text is too long.
     Long,
+    // A graph has more different edges than there are equations.
+    Edges,
 }
 
-// Document 01's number for it; an illegal pair's with 256 times its entry.
+// Document 01's number for it; an illegal pair's with 256 times its entry. It leaves room above it for a line.
 pub fn number(r: Refusal) -> u64
-    ensures { λ k. ⌜ k ≡ numberOf r ⌝ }
+    ensures { λ k. ⌜ (k ≡ numberOf r) × (k < 2 ^ 40) ⌝ }
 {
     match r {
         Refusal::Size => 1,
@@ -95,6 +98,7 @@ pub fn number(r: Refusal) -> u64
         Refusal::Vertex => 13,
         Refusal::Count => 14,
         Refusal::Long => 15,
+        Refusal::Edges => 16,
     }
 }
 

@@ -6,19 +6,20 @@ use lib.ListN.{length, take, drop, length-drop, drop-of-length-le}
 use lib.Seq.{length-take-le}
 use Rattle.lines.specs.Lines.{firstOf, linesOf}
 use borrow.Author.Needs.{needs}
-use Rattle.graphs.specs.Scans.{stateOf, edgesOf}
-use Rattle.graphs.specs.Reading.{State, edgesMost, readLines, start}
+use Rattle.graphs.specs.Scans.{stateOf, edgesOf, Kept}
+use Rattle.graphs.specs.Reading.{State, readLines, start}
 use Rattle.lines.proofs.LineLaw.{rest-is}
 use Rattle.lines.proofs.SplitLaw.{lines-at, lines-none}
+use Rattle.graphs.proofs.KeptLaw.{kept-start}
 use Rattle.graphs.proofs.ReadLaw.{read-none, read-on, read-refused, state-start}
 use Rattle.graphs.proofs.read_lines.Statement.{statement}
 use Rattle.graphs.proofs.read_lines.Tie as tie
 
 abbrev Inv-loop : tie.InvT-loop
-Inv-loop text g₀ at₀ line₀ g at line = (at ≤ length text + 1) × (line ≤ at + 1) × (g .edges ≤ edgesMost) × (readLines line (stateOf g) (linesOf (drop at text)) ≡ readLines 1 start (linesOf text))
+Inv-loop text g₀ seen₀ at₀ line₀ g seen at line = (at ≤ length text + 1) × (line ≤ at + 1) × Kept g seen × (readLines line (stateOf g) (linesOf (drop at text)) ≡ readLines 1 start (linesOf text))
 
 abbrev μ-loop : tie.MeasureT-loop
-μ-loop text g₀ at₀ line₀ g at line = length text + 1 - at
+μ-loop text g₀ seen₀ at₀ line₀ g seen at line = length text + 1 - at
 
 fresh-requires : tie.Need-fresh-requires Inv-loop μ-loop
 fresh-requires c κs = search needs
@@ -27,7 +28,7 @@ loop-holds : tie.Need-loop-holds Inv-loop μ-loop
 loop-holds c =
     let r = c .fresh .result in
     let t = c .before .before .args .text .now in
-    (omega arith, omega arith, omega (arith, c .fresh .ensures .2), ap (λ (s : State). readLines 1 s (linesOf t)) (state-start (r .vertices) (r .edges) (edgesOf r) (c .fresh .ensures .0)))
+    (omega arith, omega arith, kept-start r (c .fresh .ensures .1) (c .fresh .ensures .2) (c .fresh .ensures .4), ap (λ (s : State). readLines 1 s (linesOf t)) (state-start (r .vertices) (r .edges) (r .lines) (edgesOf r) (c .fresh .ensures .0)))
 
 sub-find : tie.Need-sub-find Inv-loop μ-loop
 sub-find c = search needs
@@ -61,9 +62,9 @@ refused-requires c κs = search needs
 
 returns : tie.Need-returns Inv-loop μ-loop
 returns c =
-    let l = c .before .before .before .before .before .before .before .before .loop in
-    let t = c .before .before .before .before .before .before .before .before .before .before .before .args .text .now in
-    let f = c .before .before .before .before .before .find in
+    let l = c .before .before .before .before .before .before .before .before .before .loop in
+    let t = c .before .before .before .before .before .before .before .before .before .before .before .before .args .text .now in
+    let f = c .before .before .before .before .before .before .find in
     let k = c .before .before .before .take-line in
     let g = k .result .graph in
     let p = l .at + f .result in
@@ -81,9 +82,9 @@ loop-less c = search needs
 
 loop-again : tie.Need-loop-again Inv-loop μ-loop
 loop-again c =
-    let l = c .before .before .before .before .before .before .before .before .loop in
-    let t = c .before .before .before .before .before .before .before .before .before .before .before .args .text .now in
-    let f = c .before .before .before .before .before .find in
+    let l = c .before .before .before .before .before .before .before .before .before .loop in
+    let t = c .before .before .before .before .before .before .before .before .before .before .before .before .args .text .now in
+    let f = c .before .before .before .before .before .before .find in
     let k = c .before .before .before .take-line in
     let g = k .result .graph in
     let p = l .at + f .result in

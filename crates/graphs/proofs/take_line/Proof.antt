@@ -36,15 +36,15 @@ returns c =
 
 returns-2 : tie.Need-returns-2
 returns-2 c =
-    let a = c .before .before .before .before .before .before .args in
+    let a = c .before .before .before .before .before .before .before .args in
     let g = a .g in
-    (c .take-problem .ensures .0 ∙ ap (takeLine (stateOf g)) (sym (c .before .before .s .given .1) ∙ c .before .before .before .before .shape-of .ensures), c .take-problem .ensures .1)
+    (c .take-problem .ensures .0 ∙ ap (takeLine (stateOf g)) (sym (c .before .before .before .s .given .1) ∙ c .before .before .before .before .before .shape-of .ensures), c .take-problem .ensures .1)
 
 returns-3 : tie.Need-returns-3
 returns-3 c =
-    let a = c .before .before .before .before .before .before .args in
+    let a = c .before .before .before .before .before .before .before .args in
     let g = a .g in
-    (c .take-edge .ensures .0 ∙ ap (takeLine (stateOf g)) (sym (c .before .before .s2 .given .1) ∙ c .before .before .before .before .shape-of .ensures), c .take-edge .ensures .1)
+    (c .take-edge .ensures .0 ∙ ap (takeLine (stateOf g)) (sym (c .before .before .before .s2 .given .1) ∙ c .before .before .before .before .before .shape-of .ensures), c .take-edge .ensures .1)
 
 returns-4 : tie.Need-returns-4
 returns-4 c =

@@ -4,6 +4,7 @@ use Prim.Native.Nat.{_-_}
 use native.Mathlib.Omega.{arith}
 use Rattle.graphs.specs.Scans.{edgesOf}
 use Rattle.graphs.specs.Reading.{on}
+use Rattle.graphs.proofs.KeptLaw.{kept-fresh}
 use Rattle.graphs.proofs.ReadLaw.{second-problem, first-problem, state-is, ends-none, problem-fine}
 use borrow.Author.Needs.{needs}
 use Rattle.graphs.proofs.take_problem.Statement.{statement}
@@ -13,7 +14,7 @@ returns : tie.Need-returns
 returns c =
     let a = c .before .args in
     let g = a .g in
-    (second-problem (g .vertices) (g .edges) (edgesOf g) (c .if1 .taken) (a .v) (a .e), c .before .pre)
+    (second-problem (g .vertices) (g .edges) (g .lines) (edgesOf g) (c .if1 .taken) (a .v) (a .e), c .before .pre)
 
 problem-fault-requires : tie.Need-problem-fault-requires
 problem-fault-requires c κs = search needs
@@ -31,7 +32,7 @@ returns-2 : tie.Need-returns-2
 returns-2 c =
     let a = c .before .before .before .before .before .args in
     let g = a .g in
-    (first-problem (g .vertices) (g .edges) (edgesOf g) (c .before .before .before .before .if1 .left) (a .v) (a .e) (sym (c .before .before .before .problem-fault .ensures) ∙ c .before .f .given .1), c .before .before .before .before .before .pre)
+    (first-problem (g .vertices) (g .edges) (g .lines) (edgesOf g) (c .before .before .before .before .if1 .left) (a .v) (a .e) (sym (c .before .before .before .problem-fault .ensures) ∙ c .before .f .given .1), c .before .before .before .before .before .pre)
 
 returns-3 : tie.Need-returns-3
 returns-3 c =
@@ -40,7 +41,7 @@ returns-3 c =
     let r = c .fresh .result in
     let e = c .fresh .ensures in
     let f = sym (c .before .before .before .problem-fault .ensures) ∙ c .before .enum-told .given .1 in
-    (ap on (state-is (e .0) (e .1) (e .2) (ends-none (r .count) (r .one) (r .other) (e .3))) ∙ first-problem (g .vertices) (g .edges) (edgesOf g) (c .before .before .before .before .if1 .left) (a .v) (a .e) f, omega (arith, problem-fine (a .v) (a .e) f .e-most, e .2))
+    (ap on (state-is (e .0) (e .1) (e .2) (e .3) (ends-none (r .count) (r .one) (r .other) (e .4))) ∙ first-problem (g .vertices) (g .edges) (g .lines) (edgesOf g) (c .before .before .before .before .if1 .left) (a .v) (a .e) f, kept-fresh g r (a .seen .now) (c .before .before .before .before .before .pre) (c .before .before .before .before .if1 .left) (omega (arith, problem-fine (a .v) (a .e) f .v-most, e .1)) (omega (arith, problem-fine (a .v) (a .e) f .e-most, e .2)) (e .4))
 
 pub take-problem-spec : {M : Type 1} → statement M
 take-problem-spec =

@@ -72,7 +72,7 @@ returns c =
     let x = a .args .input .now in
     begun-refused x _ (c .before .before .refused .last .1 .1 .0) _ _ _ (c .before .before .refused .result)
     (sym (c .before .before .before .before .before .before .answer .given .1) ∙ r .ensures .0 ∙ ap (λ (w : ℕ). answerOf (outcomeOf x w)) (a .pre .0))
-    (c .before .before .before .before .number .ensures) (c .before .before .refused .ensures)
+    (c .before .before .before .before .number .ensures .0) (c .before .before .refused .ensures)
 
 same-length-3 : tie.Need-same-length-3
 same-length-3 c = search needs

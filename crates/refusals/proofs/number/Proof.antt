@@ -1,5 +1,6 @@
 -- `refusals::number` meets its contract.
 use mathlib.Core.Path.{sym, ap}
+use native.Mathlib.Omega.{arith}
 use Rattle.refusals.specs.Refusal.{numberOf}
 use borrow.Author.Needs.{needs}
 use Rattle.refusals.proofs.number.Statement.{statement}
@@ -55,6 +56,9 @@ enum-told-11 c = search needs
 enum-told-12 : tie.Need-enum-told-12
 enum-told-12 c = search needs
 
+enum-told-13 : tie.Need-enum-told-13
+enum-told-13 c = search needs
+
 returns : tie.Need-returns
 returns c = search needs
 
@@ -62,7 +66,7 @@ returns-2 : tie.Need-returns-2
 returns-2 c = search needs
 
 returns-3 : tie.Need-returns-3
-returns-3 c = sym (ap numberOf (c .before .r .given .1))
+returns-3 c = (sym (ap numberOf (c .before .r .given .1)), omega arith)
 
 returns-4 : tie.Need-returns-4
 returns-4 c = search needs
@@ -94,6 +98,9 @@ returns-12 c = search needs
 returns-13 : tie.Need-returns-13
 returns-13 c = search needs
 
+returns-14 : tie.Need-returns-14
+returns-14 c = search needs
+
 pub number-spec : {M : Type 1} → statement M
 number-spec =
     tie.close
@@ -114,6 +121,7 @@ number-spec =
     enum-told-10
     enum-told-11
     enum-told-12
+    enum-told-13
     returns
     returns-2
     returns-3
@@ -126,4 +134,5 @@ number-spec =
     returns-10
     returns-11
     returns-12
-    returns-13)
+    returns-13
+    returns-14)

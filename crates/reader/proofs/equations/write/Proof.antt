@@ -1,6 +1,6 @@
 -- `reader::equations::write` meets its contract: the table so far is that of the edges so far.
 use mathlib.Core.Path.{_≡_, refl, sym, ap, ap₂, _∙_}
-use Prim.Native.Nat.{ℕ, _-_, _*_, _≤_}
+use Prim.Native.Nat.{ℕ, _-_, _*_, _≤_, min, max}
 use native.Mathlib.Numerals.{add-one}
 use native.Mathlib.Omega.{arith}
 use lib.ListN.{length, getD, replicate, length-replicate}
@@ -32,33 +32,25 @@ loop-holds c =
     let t = c .before .before .clear .ensures ∙ ap (λ (k : ℕ). replicate k 0) p in
     (omega arith, refl, ap length t ∙ length-replicate (2 * countOf (g .vertices)) 0, t ∙ words-none (g .vertices) (systemOf (edgesOf g)))
 
-mul-a : tie.Need-mul-a Inv-loop μ-loop
-mul-a c =
+element-copy-out-wide : tie.Need-element-copy-out-wide Inv-loop μ-loop
+element-copy-out-wide c =
     let g = c .before .before .before .before .before .before .before .args .t2 in
     let d = c .before .before .before .before .before .before .before .pre .1 in
     let l = c .before .loop in
     omega (arith, ends-few (g .vertices) (g .count) (g .one) (g .other) d)
 
-element-copy-out-a : tie.Need-element-copy-out-a Inv-loop μ-loop
-element-copy-out-a c =
-    let g = c .before .before .before .before .before .before .before .args .t2 in
-    let d = c .before .before .before .before .before .before .before .pre .1 in
-    let l = c .before .loop in
+wide-requires : tie.Need-wide-requires Inv-loop μ-loop
+wide-requires c κs = search needs
+
+element-copy-out-wide-2 : tie.Need-element-copy-out-wide-2 Inv-loop μ-loop
+element-copy-out-wide-2 c =
+    let g = c .before .before .before .before .before .before .before .before .before .args .t2 in
+    let d = c .before .before .before .before .before .before .before .before .before .pre .1 in
+    let l = c .before .before .before .loop in
     omega (arith, ends-few (g .vertices) (g .count) (g .one) (g .other) d)
 
-mul-b : tie.Need-mul-b Inv-loop μ-loop
-mul-b c =
-    let g = c .before .before .before .before .before .before .before .before .args .t2 in
-    let d = c .before .before .before .before .before .before .before .before .pre .1 in
-    let l = c .before .before .loop in
-    omega (arith, ends-few (g .vertices) (g .count) (g .one) (g .other) d)
-
-element-copy-out-b : tie.Need-element-copy-out-b Inv-loop μ-loop
-element-copy-out-b c =
-    let g = c .before .before .before .before .before .before .before .before .args .t2 in
-    let d = c .before .before .before .before .before .before .before .before .pre .1 in
-    let l = c .before .before .loop in
-    omega (arith, ends-few (g .vertices) (g .count) (g .one) (g .other) d)
+wide-requires-2 : tie.Need-wide-requires-2 Inv-loop μ-loop
+wide-requires-2 c κs = search needs
 
 lesser-requires : tie.Need-lesser-requires Inv-loop μ-loop
 lesser-requires c κs = search needs
@@ -68,27 +60,27 @@ greater-requires c κs = search needs
 
 sub-put-edge : tie.Need-sub-put-edge Inv-loop μ-loop
 sub-put-edge c =
-    let g = c .before .before .before .before .before .before .before .before .before .before .before .before .args .t2 in
-    let d = c .before .before .before .before .before .before .before .before .before .before .before .before .pre .1 in
-    let l = c .before .before .before .before .before .before .loop in
+    let g = c .before .before .before .before .before .before .before .before .before .before .before .before .before .before .args .t2 in
+    let d = c .before .before .before .before .before .before .before .before .before .before .before .before .before .before .pre .1 in
+    let l = c .before .before .before .before .before .before .before .before .loop in
     let o = in-order (g .vertices) (getD (g .one) (l .e) 0) (getD (g .other) (l .e) 0) (ends-edged (g .vertices) (g .count) (g .one) (g .other) d (l .e) (omega arith)) in
-    omega (arith, c .before .before .lesser .ensures, o .low)
+    omega (arith, (c .before .before .lesser .ensures ∙ ap₂ min (c .before .before .before .before .before .wide .ensures) (c .before .before .before .wide2 .ensures)), o .low)
 
 sub-put-edge-2 : tie.Need-sub-put-edge-2 Inv-loop μ-loop
 sub-put-edge-2 c =
-    let g = c .before .before .before .before .before .before .before .before .before .before .before .before .args .t2 in
-    let d = c .before .before .before .before .before .before .before .before .before .before .before .before .pre .1 in
-    let l = c .before .before .before .before .before .before .loop in
+    let g = c .before .before .before .before .before .before .before .before .before .before .before .before .before .before .args .t2 in
+    let d = c .before .before .before .before .before .before .before .before .before .before .before .before .before .before .pre .1 in
+    let l = c .before .before .before .before .before .before .before .before .loop in
     let o = in-order (g .vertices) (getD (g .one) (l .e) 0) (getD (g .other) (l .e) 0) (ends-edged (g .vertices) (g .count) (g .one) (g .other) d (l .e) (omega arith)) in
-    omega (arith, c .before .greater .ensures, o .high)
+    omega (arith, (c .before .greater .ensures ∙ ap₂ max (c .before .before .before .before .before .wide .ensures) (c .before .before .before .wide2 .ensures)), o .high)
 
 put-edge-requires : tie.Need-put-edge-requires Inv-loop μ-loop
 put-edge-requires c κs =
-    let g = c .before .before .before .before .before .before .before .before .before .before .before .before .args .t2 in
-    let d = c .before .before .before .before .before .before .before .before .before .before .before .before .pre .1 in
-    let l = c .before .before .before .before .before .before .loop in
+    let g = c .before .before .before .before .before .before .before .before .before .before .before .before .before .before .args .t2 in
+    let d = c .before .before .before .before .before .before .before .before .before .before .before .before .before .before .pre .1 in
+    let l = c .before .before .before .before .before .before .before .before .loop in
     let o = in-order (g .vertices) (getD (g .one) (l .e) 0) (getD (g .other) (l .e) 0) (ends-edged (g .vertices) (g .count) (g .one) (g .other) d (l .e) (omega arith)) in
-    (d .most, omega (arith, c .before .before .lesser .ensures, c .before .greater .ensures, o .apart), omega (arith, c .before .greater .ensures, o .most), omega (arith, ends-few (g .vertices) (g .count) (g .one) (g .other) d), l .inv .2)
+    (d .most, omega (arith, (c .before .before .lesser .ensures ∙ ap₂ min (c .before .before .before .before .before .wide .ensures) (c .before .before .before .wide2 .ensures)), (c .before .greater .ensures ∙ ap₂ max (c .before .before .before .before .before .wide .ensures) (c .before .before .before .wide2 .ensures)), o .apart), omega (arith, (c .before .greater .ensures ∙ ap₂ max (c .before .before .before .before .before .wide .ensures) (c .before .before .before .wide2 .ensures)), o .most), omega (arith, ends-few (g .vertices) (g .count) (g .one) (g .other) d), l .inv .2)
 
 add-e : tie.Need-add-e Inv-loop μ-loop
 add-e c = search needs
@@ -98,14 +90,14 @@ loop-less c = search needs
 
 loop-again : tie.Need-loop-again Inv-loop μ-loop
 loop-again c =
-    let g = c .before .before .before .before .before .before .before .before .before .before .before .before .before .before .before .args .t2 in
-    let d = c .before .before .before .before .before .before .before .before .before .before .before .before .before .before .before .pre .1 in
-    let l = c .before .before .before .before .before .before .before .before .before .loop in
+    let g = c .before .before .before .before .before .before .before .before .before .before .before .before .before .before .before .before .before .args .t2 in
+    let d = c .before .before .before .before .before .before .before .before .before .before .before .before .before .before .before .before .before .pre .1 in
+    let l = c .before .before .before .before .before .before .before .before .before .before .before .loop in
     let o = in-order (g .vertices) (getD (g .one) (l .e) 0) (getD (g .other) (l .e) 0) (ends-edged (g .vertices) (g .count) (g .one) (g .other) d (l .e) (omega arith)) in
     let x = getD (g .one) (l .e) 0 in
     let y = getD (g .other) (l .e) 0 in
     let j = c .before .before .put-edge .ensures in
-    let q = system-at (edgesOf g) (l .e) x y (ends-at (g .count) (g .one) (g .other) (l .e) (omega arith)) (ends-edged (g .vertices) (g .count) (g .one) (g .other) d (l .e) (omega arith) .apart) ∙ ap₂ (λ (u w : ℕ). edgePoly (u - 1) (w - 1)) (sym (c .before .before .before .before .before .lesser .ensures)) (sym (c .before .before .before .before .greater .ensures)) in
+    let q = system-at (edgesOf g) (l .e) x y (ends-at (g .count) (g .one) (g .other) (l .e) (omega arith)) (ends-edged (g .vertices) (g .count) (g .one) (g .other) d (l .e) (omega arith) .apart) ∙ ap₂ (λ (u w : ℕ). edgePoly (u - 1) (w - 1)) (sym (c .before .before .before .before .before .lesser .ensures ∙ ap₂ min (c .before .before .before .before .before .before .before .before .wide .ensures) (c .before .before .before .before .before .before .wide2 .ensures))) (sym (c .before .before .before .before .greater .ensures ∙ ap₂ max (c .before .before .before .before .before .before .before .before .wide .ensures) (c .before .before .before .before .before .before .wide2 .ensures))) in
     (omega arith, refl, j .size ∙ l .inv .2, rw (add-one (l .e)) (j .words (systemOf (edgesOf g)) q (l .inv .3)))
 
 same-length : tie.Need-same-length Inv-loop μ-loop
@@ -126,10 +118,10 @@ write-spec =
     μ-loop
     clear-requires
     loop-holds
-    mul-a
-    element-copy-out-a
-    mul-b
-    element-copy-out-b
+    element-copy-out-wide
+    wide-requires
+    element-copy-out-wide-2
+    wide-requires-2
     lesser-requires
     greater-requires
     sub-put-edge

@@ -55,7 +55,7 @@ returns-2 : tie.Need-returns-2
 returns-2 c =
     let a = c .before .before .before .before .before .before .args in
     let e = c .before .before .a2 .given .1 in (
-      c .number .ensures ∙ sym (ap answerNumber e),
+      c .number .ensures .0 ∙ sym (ap answerNumber e),
       sym (ap (λ (x : Answer). recordBytes x (a .r) (a .«record» .now)) e),
       sym (ap (λ (x : Answer). answerBytes (a .end) x (a .answer .now)) e),
     )
