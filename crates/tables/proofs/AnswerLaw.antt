@@ -15,8 +15,8 @@ use Rattle.refusals.specs.declared.Verdict.the-variants.{Done, Refused}
 use Rattle.refusals.specs.Refusal.{codeOf, refuse, sized}
 use Rattle.refusals.proofs.RefusalLaw.{done-test, done-next, refuse-none, sized-within, sized-done, refused-next, refused-last}
 use Rattle.tables.specs.Monomials.{countOf}
-use Rattle.tables.specs.Words.{legalFront, Table, valuesAt}
-use Rattle.tables.specs.Answers.{SizeTest, long, paired, checkedOf, copyVerdict, packVerdict, evaluateVerdict, valued, evaluateOf, evaluatedCode, evaluatedWords, wordsFrom, Tells}
+use Rattle.tables.specs.Words.{legalFront, Entries, Table, valuesAt}
+use Rattle.tables.specs.Answers.{SizeTest, longOf, long, pairedOf, paired, checkedOf, entriesVerdict, copyVerdict, packVerdict, evaluateVerdict, valued, evaluateOf, evaluatedCode, evaluatedWords, wordsFrom, Tells}
 use Rattle.trits.specs.declared.Vector.{Vector}
 use Rattle.tables.specs.declared.Evaluated.{Evaluated}
 use Rattle.tables.specs.declared.Evaluated.the-variants as evaluated
@@ -41,19 +41,19 @@ size-passed n m a b c d =
       refused = λ e. absurd (true≢false e);
     }
 
--- refusal 2
-pub long-refused : (n : ℕ) (t : List ℕ) (v : Verdict) → (length t ≡ 2 * countOf n → ⊥) → long n t v ≡ Refused Length
-long-refused n t v d = rw (ne-eqb (length t) (2 * countOf n) d)
+-- refusal 2, of a table of N entries
+pub long-refused : (N : ℕ) (t : List ℕ) (v : Verdict) → (length t ≡ 2 * N → ⊥) → longOf N t v ≡ Refused Length
+long-refused N t v d = rw (ne-eqb (length t) (2 * N) d)
 
-pub long-passed : (n : ℕ) (t : List ℕ) (v : Verdict) → length t ≡ 2 * countOf n → long n t v ≡ v
-long-passed n t v e = rw (eq-eqb (length t) (2 * countOf n) e)
+pub long-passed : (N : ℕ) (t : List ℕ) (v : Verdict) → length t ≡ 2 * N → longOf N t v ≡ v
+long-passed N t v e = rw (eq-eqb (length t) (2 * N) e)
 
 -- refusal 3
-pub pair-refused : (n m : ℕ) (t : List ℕ) (v : Verdict) → legalFront m t < countOf n → paired n m t v ≡ Refused Pair
-pair-refused n m t v h = rw (lt-ltb (legalFront m t) (countOf n) h)
+pub pair-refused : (N m : ℕ) (t : List ℕ) (v : Verdict) → legalFront m t < N → pairedOf N m t v ≡ Refused Pair
+pair-refused N m t v h = rw (lt-ltb (legalFront m t) N h)
 
-pub pair-passed : (n m : ℕ) (t : List ℕ) (v : Verdict) → countOf n ≤ legalFront m t → paired n m t v ≡ v
-pair-passed n m t v h = rw (le-ltb (legalFront m t) (countOf n) h)
+pub pair-passed : (N m : ℕ) (t : List ℕ) (v : Verdict) → N ≤ legalFront m t → pairedOf N m t v ≡ v
+pair-passed N m t v h = rw (le-ltb (legalFront m t) N h)
 
 -- a table that is judged twice is judged once
 pub copy-self : (n m : ℕ) (t : List ℕ) → copyVerdict n m t t ≡ checkedOf n m t
@@ -63,69 +63,65 @@ copy-self n m t = ap (sized n m) (twice (not (eqb (length t) (2 * countOf n))) (
     twice true v = refl
     twice false v = refl
 
--- from one table into another, test after test; k is the count as the code has it
-module _ (n m : ℕ) (from to : List ℕ) (sizes : (v : Verdict) → sized n m v ≡ v) (k : ℕ) (count : k ≡ countOf n) where
-  pub copy-from : (length from ≡ 2 * k → ⊥) → copyVerdict n m from to ≡ Refused Length
-  copy-from d = sizes _ ∙ long-refused n from (long n to (paired n m from Done)) (λ e. d (e ∙ ap (λ (x : ℕ). 2 * x) (sym count)))
+-- from one table of N entries into another, test after test
+module _ (N m : ℕ) (from to : List ℕ) where
+  pub copy-from : (length from ≡ 2 * N → ⊥) → entriesVerdict N m from to ≡ Refused Length
+  copy-from d = long-refused N from (longOf N to (pairedOf N m from Done)) d
 
-  module _ (read : length from ≡ 2 * k) where
-    read-is : length from ≡ 2 * countOf n
-    read-is = read ∙ ap (λ (x : ℕ). 2 * x) count
+  module _ (read : length from ≡ 2 * N) where
+    pub copy-to : (length to ≡ 2 * N → ⊥) → entriesVerdict N m from to ≡ Refused Length
+    copy-to d = long-passed N from (longOf N to (pairedOf N m from Done)) read ∙ long-refused N to (pairedOf N m from Done) d
 
-    pub copy-to : (length to ≡ 2 * k → ⊥) → copyVerdict n m from to ≡ Refused Length
-    copy-to d =
-        sizes _ ∙ long-passed n from (long n to (paired n m from Done)) read-is
-        ∙ long-refused n to (paired n m from Done) (λ e. d (e ∙ ap (λ (x : ℕ). 2 * x) (sym count)))
+    module _ (written : length to ≡ 2 * N) where
+      lengths : entriesVerdict N m from to ≡ pairedOf N m from Done
+      lengths = long-passed N from (longOf N to (pairedOf N m from Done)) read ∙ long-passed N to (pairedOf N m from Done) written
 
-    module _ (written : length to ≡ 2 * k) where
-      lengths : copyVerdict n m from to ≡ paired n m from Done
-      lengths =
-          sizes _ ∙ long-passed n from (long n to (paired n m from Done)) read-is
-          ∙ long-passed n to (paired n m from Done) (written ∙ ap (λ (x : ℕ). 2 * x) count)
+      pub copy-pair : (f : ℕ) → f ≡ legalFront m from → f < N → entriesVerdict N m from to ≡ Refused Pair
+      copy-pair f e h = lengths ∙ pair-refused N m from Done (omega arith)
 
-      pub copy-pair : (f : ℕ) → f ≡ legalFront m from → f < k → copyVerdict n m from to ≡ Refused Pair
-      copy-pair f e h = lengths ∙ pair-refused n m from Done (omega arith)
-
-      pub copy-done : (f : ℕ) → f ≡ legalFront m from → k ≤ f → copyVerdict n m from to ≡ Done
-      copy-done f e h = lengths ∙ pair-passed n m from Done (omega arith)
+      pub copy-done : (f : ℕ) → f ≡ legalFront m from → N ≤ f → entriesVerdict N m from to ≡ Done
+      copy-done f e h = lengths ∙ pair-passed N m from Done (omega arith)
 
 -- ---- what is known where nothing is refused
 refuse-done : (b : Bool) (r : Refusal) (v : Verdict) → refuse b r v ≡ Done → (b ≡ false) × (v ≡ Done)
 refuse-done b r v e = (done-test b r v e, done-next b r v e)
 
-pub long-done : (n : ℕ) (t : List ℕ) (v : Verdict) → long n t v ≡ Done → (length t ≡ 2 * countOf n) × (v ≡ Done)
-long-done n t v e =
-    let a = refuse-done (not (eqb (length t) (2 * countOf n))) Length v e in
-    (eqb-true (length t) (2 * countOf n) (not-false _ (a .0)), a .1)
+pub long-done : (N : ℕ) (t : List ℕ) (v : Verdict) → longOf N t v ≡ Done → (length t ≡ 2 * N) × (v ≡ Done)
+long-done N t v e =
+    let a = refuse-done (not (eqb (length t) (2 * N))) Length v e in
+    (eqb-true (length t) (2 * N) (not-false _ (a .0)), a .1)
 
-pub paired-done : (n m : ℕ) (t : List ℕ) (v : Verdict) → length t ≡ 2 * countOf n → paired n m t v ≡ Done → Table n m t × (v ≡ Done)
-paired-done n m t v l e =
-    let a = refuse-done (ltb (legalFront m t) (countOf n)) Pair v e in
-    let b = ltb-false (legalFront m t) (countOf n) (a .0) in
-    let f = front-of m (countOf n) t l in
+pub paired-done : (N m : ℕ) (t : List ℕ) (v : Verdict) → length t ≡ 2 * N → pairedOf N m t v ≡ Done → Entries N m t × (v ≡ Done)
+paired-done N m t v l e =
+    let a = refuse-done (ltb (legalFront m t) N) Pair v e in
+    let b = ltb-false (legalFront m t) N (a .0) in
+    let f = front-of m N t l in
     (record { size = l; legal = λ k h. f .below k (omega arith) }, a .1)
 
 -- a copy that is not refused: its sizes, a legal table read, and room for the other
-pub record Ready (n m : ℕ) (from to : List ℕ) : Type 0 where
+pub record Ready (N n m : ℕ) (from to : List ℕ) : Type 0 where
   pub least : 1 ≤ n
   pub most : n ≤ 20
-  pub table : Table n m from
-  pub room : length to ≡ 2 * countOf n
+  pub table : Entries N m from
+  pub room : length to ≡ 2 * N
 
-pub copy-ready : (n m : ℕ) (from to : List ℕ) → copyVerdict n m from to ≡ Done → Ready n m from to
-copy-ready n m from to e =
-    let w = sized-within n m (long n from (long n to (paired n m from Done))) e in
-    let a = sized-done n m (long n from (long n to (paired n m from Done))) e in
-    let b = long-done n from (long n to (paired n m from Done)) a in
-    let c = long-done n to (paired n m from Done) (b .1) in
-    let d = paired-done n m from Done (b .0) (c .1) in
+pub entries-ready : (N n m : ℕ) (from to : List ℕ) → sized n m (entriesVerdict N m from to) ≡ Done → Ready N n m from to
+entries-ready N n m from to e =
+    let w = sized-within n m (entriesVerdict N m from to) e in
+    let a = sized-done n m (entriesVerdict N m from to) e in
+    let b = long-done N from (longOf N to (pairedOf N m from Done)) a in
+    let c = long-done N to (pairedOf N m from Done) (b .1) in
+    let d = paired-done N m from Done (b .0) (c .1) in
     record { least = w .least; most = w .most; table = d .0; room = c .0 }
+
+pub copy-ready : (n m : ℕ) (from to : List ℕ) → copyVerdict n m from to ≡ Done → Ready (countOf n) n m from to
+copy-ready n = entries-ready (countOf n) n
 
 -- ---- a table judged, and what is asked after it
 pub checked-ready : (n m : ℕ) (t : List ℕ) → checkedOf n m t ≡ Done → (n ≤ 20) × Table n m t
 checked-ready n m t e =
-    let b = long-done n t (paired n m t Done) (sized-done n m (long n t (paired n m t Done)) e) in
-    (sized-within n m (long n t (paired n m t Done)) e .most, paired-done n m t Done (b .0) (b .1) .0)
+    let b = long-done (countOf n) t (paired n m t Done) (sized-done n m (long n t (paired n m t Done)) e) in
+    (sized-within n m (long n t (paired n m t Done)) e .most, paired-done (countOf n) m t Done (b .0) (b .1) .0)
 
 refuse-then : (b : Bool) (s r : Refusal) (f : Verdict → Verdict) (v : Verdict) → (f Done ≡ Refused r → f v ≡ Refused r) → refuse b s (f Done) ≡ Refused r → refuse b s (f v) ≡ Refused r
 refuse-then b s r f v h e = refused-next b s r (f Done) (f v) e h
@@ -189,7 +185,7 @@ module _ (n m : ℕ) (rows : List ℤ) (t : List ℕ) (sizes : (v : Verdict) →
     rows-passed = sizes _ ∙ rw (eq-eqb (length rows) (m * countOf n) (read ∙ ap (λ (x : ℕ). m * x) count))
 
     pub pack-table : (length t ≡ 2 * k → ⊥) → packVerdict n m rows t ≡ Refused Length
-    pack-table d = rows-passed ∙ long-refused n t Done (λ e. d (e ∙ ap (λ (x : ℕ). 2 * x) (sym count)))
+    pack-table d = rows-passed ∙ long-refused (countOf n) t Done (λ e. d (e ∙ ap (λ (x : ℕ). 2 * x) (sym count)))
 
     pub pack-done : length t ≡ 2 * k → packVerdict n m rows t ≡ Done
-    pack-done e = rows-passed ∙ long-passed n t Done (e ∙ ap (λ (x : ℕ). 2 * x) count)
+    pack-done e = rows-passed ∙ long-passed (countOf n) t Done (e ∙ ap (λ (x : ℕ). 2 * x) count)

@@ -23,28 +23,40 @@ pub record SizeTest (n m : ℕ) (r : Bool) : Type 0 where
   pub passed : r ≡ true → (v : Verdict) → sized n m v ≡ v
   pub refused : r ≡ false → (v : Verdict) → sized n m v ≡ Refused Size
 
--- refusal 2: a table of n unknowns is not of its exact length
+-- refusal 2: a table of N entries, of n unknowns, is not of its exact length
+abbrev pub longOf : ℕ → List ℕ → Verdict → Verdict
+longOf N t v = refuse (not (eqb (length t) (2 * N))) Length v
+
 abbrev pub long : ℕ → List ℕ → Verdict → Verdict
-long n t v = refuse (not (eqb (length t) (2 * countOf n))) Length v
+long n t v = longOf (countOf n) t v
 
 -- refusal 3: an illegal pair
+abbrev pub pairedOf : ℕ → ℕ → List ℕ → Verdict → Verdict
+pairedOf N m t v = refuse (ltb (legalFront m t) N) Pair v
+
 abbrev pub paired : ℕ → ℕ → List ℕ → Verdict → Verdict
-paired n m t v = refuse (ltb (legalFront m t) (countOf n)) Pair v
+paired n m t v = pairedOf (countOf n) m t v
 
 -- a word table by itself
 abbrev pub checkedOf : ℕ → ℕ → List ℕ → Verdict
 checkedOf n m t = sized n m (long n t (paired n m t Done))
 
--- signed rows into a table
+-- signed rows of N numbers into a table of N entries, and of n unknowns
+abbrev pub rowsVerdict : ℕ → ℕ → List ℤ → List ℕ → Verdict
+rowsVerdict N m rows t = refuse (not (eqb (length rows) (m * N))) Length (longOf N t Done)
+
 abbrev pub packVerdict : ℕ → ℕ → List ℤ → List ℕ → Verdict
-packVerdict n m rows t = sized n m (refuse (not (eqb (length rows) (m * countOf n))) Length (long n t Done))
+packVerdict n m rows t = sized n m (rowsVerdict (countOf n) m rows t)
 
 abbrev pub packAfter : ℕ → ℕ → List ℤ → List ℕ → List ℕ
 packAfter n m rows t = after (packVerdict n m rows t) t (packed n m rows)
 
--- from one table into another
+-- from one table into another, of N entries each, and of n unknowns
+abbrev pub entriesVerdict : ℕ → ℕ → List ℕ → List ℕ → Verdict
+entriesVerdict N m from to = longOf N from (longOf N to (pairedOf N m from Done))
+
 abbrev pub copyVerdict : ℕ → ℕ → List ℕ → List ℕ → Verdict
-copyVerdict n m from to = sized n m (long n from (long n to (paired n m from Done)))
+copyVerdict n m from to = sized n m (entriesVerdict (countOf n) m from to)
 
 abbrev pub differencesAfter : ℕ → ℕ → List ℕ → List ℕ → List ℕ
 differencesAfter n m c t = after (copyVerdict n m c t) t (differencesOf n m c)

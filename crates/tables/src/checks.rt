@@ -6,14 +6,14 @@ use refusals::Verdict;
 use trits::legal;
 ghost use mathlib.Core.Path.{_≡_};
 ghost use mathlib.Core.List.{List};
-ghost use Prim.Native.Nat.{ℕ, _*_, _≤_};
+ghost use Prim.Native.Nat.{ℕ, _*_, _^_, _<_};
 ghost use lib.ListN.{length};
 ghost use Rattle.tables.specs.Monomials.{countOf};
 ghost use Rattle.tables.specs.Words.{legalFront};
-ghost use Rattle.tables.specs.Answers.{SizeTest, checkedOf, copyVerdict};
+ghost use Rattle.tables.specs.Answers.{SizeTest, checkedOf, entriesVerdict, copyVerdict};
 
 // Whether n is 1 to 20 and m is 1 to 64.
-pub(crate) fn sizes(n: u64, m: u64) -> bool
+pub fn sizes(n: u64, m: u64) -> bool
     ensures { λ r. ⌜ SizeTest n m r ⌝ }
 {
     if n < 1 {
@@ -46,14 +46,11 @@ pub(crate) fn legal_front(m: u64, entries: usize, table: &[u64]) -> usize
     k
 }
 
-// One table read, and another of `words` words to be written: all lengths come before the pairs.
-pub(crate) fn check_copy(n: u64, m: u64, from: &[u64], words: usize) -> Verdict
-    ensures { λ r. ⌜ ((to : List ℕ) → length to ≡ words → r ≡ copyVerdict n m (now (from .entry)) to) ⌝ }
+// One table read, and another of `words` words to be written, of so many entries: both lengths come before the pairs.
+pub fn check_entries(m: u64, entries: usize, from: &[u64], words: usize) -> Verdict
+    requires { ⌜ entries < 2 ^ 32 ⌝ }
+    ensures { λ r. ⌜ ((to : List ℕ) → length to ≡ words → r ≡ entriesVerdict entries m (now (from .entry)) to) ⌝ }
 {
-    if !sizes(n, m) {
-        return Verdict::Refused(Refusal::Size);
-    }
-    let entries = count(n as usize);
     if from.len() != 2 * entries {
         return Verdict::Refused(Refusal::Length);
     }
@@ -64,6 +61,16 @@ pub(crate) fn check_copy(n: u64, m: u64, from: &[u64], words: usize) -> Verdict
         return Verdict::Refused(Refusal::Pair);
     }
     Verdict::Done
+}
+
+// The same for tables of n unknowns: their sizes come first.
+pub(crate) fn check_copy(n: u64, m: u64, from: &[u64], words: usize) -> Verdict
+    ensures { λ r. ⌜ ((to : List ℕ) → length to ≡ words → r ≡ copyVerdict n m (now (from .entry)) to) ⌝ }
+{
+    if !sizes(n, m) {
+        return Verdict::Refused(Refusal::Size);
+    }
+    check_entries(m, count(n as usize), from, words)
 }
 
 // A table by itself: its sizes, its length, its pairs. It is judged as if it were to be written, too.

@@ -59,7 +59,7 @@ fn turn(from: &[u64], to: &mut [u64], n: usize, i: usize, p: Vector)
 }
 
 // The differences of the coefficients `from`, into `to`.
-fn differences_into(from: &[u64], to: &mut [u64], n: usize)
+pub fn differences_into(from: &[u64], to: &mut [u64], n: usize)
     requires { ⌜ (n ≤ 20) × (length (now from) ≡ 2 * countOf n) × (length (now to) ≡ 2 * countOf n) ⌝ }
     ensures { λ _. ⌜ ((m : ℕ) → Table n m (now (from .entry)) → now (to .exit) ≡ differencesOf n m (now (from .entry))) ⌝ }
 {
@@ -73,7 +73,7 @@ fn differences_into(from: &[u64], to: &mut [u64], n: usize)
 }
 
 // The coefficients of the differences `from`, into `to`: the entry before i and i is a coefficient that is written by then.
-fn coefficients_into(from: &[u64], to: &mut [u64], n: usize)
+pub fn coefficients_into(from: &[u64], to: &mut [u64], n: usize)
     requires { ⌜ (n ≤ 20) × (length (now from) ≡ 2 * countOf n) × (length (now to) ≡ 2 * countOf n) ⌝ }
     ensures { λ _. ⌜ ((m : ℕ) → Table n m (now (from .entry)) → now (to .exit) ≡ coefficientsOf n m (now (from .entry))) ⌝ }
 {

@@ -7,7 +7,7 @@ ghost use Rattle.tables.specs.Monomials.{countOf, indexOf};
 ghost use Rattle.tables.specs.Words.{entry, putAt};
 
 // How many monomials there are in n unknowns.
-pub(crate) fn count(n: usize) -> usize
+pub fn count(n: usize) -> usize
     requires { ⌜ (1 ≤ n) × (n ≤ 20) ⌝ }
     ensures { λ r. ⌜ (r ≡ countOf n) × (r ≤ 231) ⌝ }
 {
@@ -42,7 +42,7 @@ pub fn vector(table: &[u64], k: usize) -> Vector
 }
 
 // A table's entry k becomes v.
-pub(crate) fn put_entry(table: &mut [u64], k: usize, v: Vector)
+pub fn put_entry(table: &mut [u64], k: usize, v: Vector)
     requires { ⌜ 2 * k + 1 < length (now table) ⌝ }
     ensures { λ _. ⌜ now (table .exit) ≡ putAt (now (table .entry)) k v ⌝ }
 {

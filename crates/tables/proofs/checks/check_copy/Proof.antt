@@ -1,87 +1,34 @@
--- `tables::checks::check_copy` meets its contract: one law for each refusal, in the order of the tests.
 use mathlib.Core.Path.{_≡_, sym, ap, _∙_}
-use Prim.Native.Nat.{ℕ, _*_, _<_, _≤_}
-use native.Mathlib.Omega.{arith}
+use Prim.Native.Nat.{ℕ}
 use borrow.Author.Tests.{not-true, not-false}
-use Rattle.tables.proofs.AnswerLaw.{copy-from, copy-to, copy-pair, copy-done}
+use Rattle.tables.specs.Answers.{entriesVerdict}
 use borrow.Author.Needs.{needs}
 use Rattle.tables.proofs.checks.check_copy.Statement.{statement}
 use Rattle.tables.proofs.checks.check_copy.Tie as tie
 use Rattle.tables.proofs.checks.check_copy.Reads as reads
 use Rattle.tables.proofs.checks.check_copy.Lts as lts
-use Rattle.tables.proofs.checks.legal_front.Reads as legal-front-reads
+use Rattle.tables.proofs.checks.check_entries.Reads as check-entries-reads
 use Rattle.tables.proofs.checks.sizes.Reads as sizes-reads
 use Rattle.tables.proofs.monomials.count.Reads as count-reads
 
--- src/checks.rt:68:9
 sizes-requires : tie.Need-sizes-requires
 sizes-requires c κs = search needs
 
--- src/checks.rt:69:9
 returns : tie.Need-returns
 returns c = λ to e. sym (c .before .sizes .ensures .refused (not-true _ (c .if1 .taken)) _)
 
--- src/checks.rt:71:9
 count-requires : tie.Need-count-requires
 count-requires c κs = c .before .sizes .ensures .unknowns (not-false _ (c .if1 .left))
 
--- src/checks.rt:72:22
-mul-if2 : tie.Need-mul-if2
-mul-if2 c = search needs
+check-entries-requires : tie.Need-check-entries-requires
+check-entries-requires c κs = search needs
 
--- src/checks.rt:73:9
 returns-2 : tie.Need-returns-2
 returns-2 c = λ to e.
-    let b = c .before in
-    let a = b .before .before .before .before .args in
-    let s = b .before .before .sizes .ensures .passed (not-false _ (b .before .if1 .left)) in
-    sym (copy-from (a .n) (a .m) (a .from .now) to s (b .count .result) (b .count .ensures .0) (c .if2 .taken))
-
--- src/checks.rt:75:17
-mul-if3 : tie.Need-mul-if3
-mul-if3 c = search needs
-
--- src/checks.rt:76:9
-returns-3 : tie.Need-returns-3
-returns-3 c = λ to e.
     let b = c .before .before in
-    let a = b .before .before .before .before .args in
-    let s = b .before .before .sizes .ensures .passed (not-false _ (b .before .if1 .left)) in
-    sym (copy-to (a .n) (a .m) (a .from .now) to s (b .count .result) (b .count .ensures .0) (c .before .if2 .left) (λ q. c .if3 .taken (sym e ∙ q)))
-
--- src/checks.rt:78:8
-legal-front-requires : tie.Need-legal-front-requires
-legal-front-requires c κs = search needs
-
--- src/checks.rt:79:9
-returns-4 : tie.Need-returns-4
-returns-4 c = λ to e.
-    let b = c .before .before .before .before in
-    let a = b .before .before .before .before .args in
-    let s = b .before .before .sizes .ensures .passed (not-false _ (b .before .if1 .left)) in
-    let f = c .before .legal-front in
-    sym (copy-pair (a .n) (a .m) (a .from .now) to s (b .count .result) (b .count .ensures .0) (c .before .before .before .if2 .left) (e ∙ c .before .before .if3 .left) (f .result) (f .ensures) (c .if4 .taken))
-
--- src/checks.rt:65:1
-returns-5 : tie.Need-returns-5
-returns-5 c = λ to e.
-    let b = c .before .before .before .before in
-    let a = b .before .before .before .before .args in
-    let s = b .before .before .sizes .ensures .passed (not-false _ (b .before .if1 .left)) in
-    let f = c .before .legal-front in
-    sym (copy-done (a .n) (a .m) (a .from .now) to s (b .count .result) (b .count .ensures .0) (c .before .before .before .if2 .left) (e ∙ c .before .before .if3 .left) (f .result) (f .ensures) (c .if4 .left))
+    let a = b .before .before .before .args in
+    c .check-entries .ensures to e ∙ ap (λ (N : ℕ). entriesVerdict N (a .m) (a .from .now) to) (c .before .count .ensures .0) ∙ sym (b .before .sizes .ensures .passed (not-false _ (b .if1 .left)) _)
 
 pub check-copy-spec : {M : Type 1} → statement M
 check-copy-spec =
-    tie.close
-    (tie.spec
-    sizes-requires
-    returns
-    count-requires
-    mul-if2
-    returns-2
-    mul-if3
-    returns-3
-    legal-front-requires
-    returns-4
-    returns-5)
+    tie.close (tie.spec sizes-requires returns count-requires check-entries-requires returns-2)
