@@ -3,3 +3,5 @@ pub mod TableLaw
 pub mod MeanLaw
 pub mod SlotLaw
 pub mod FormLaw
+pub mod DegreeTwoLaw
+pub mod QuadLaw

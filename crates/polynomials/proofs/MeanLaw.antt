@@ -11,7 +11,8 @@ use Rattle.polynomials.specs.Poly.{Poly, eval, slope, diff, prev, tableO
 use Rattle.gray.specs.Numbers.{pointDigit}
 use Rattle.gray.specs.Positions.{before}
 use Rattle.residues.proofs.ModLaw.{Cong, crefl, cof, csym, _⨾_, cdrop, cadd, cmul, cwhole, cancel}
-use Rattle.gray.proofs.GrayLaw.{point-low, point-next, low-is, before-low, before-part, near, far}
+use Rattle.held.proofs.PointLaw.{point-none}
+use Rattle.gray.proofs.GrayLaw.{point-next, low-is, before-low, before-part, near, far}
 use Rattle.residues.proofs.SumLaw.{sum-zero, sum-both, sum-twice, sum-one, sum-add, sum-ext}
 use Rattle.polynomials.proofs.PolyLaw.{slope-self, slope-above, slope-prev, diff-moves}
 use Rattle.polynomials.proofs.TableLaw.{table-lin, table-same, table-other}
@@ -20,17 +21,10 @@ module _ (q : ℕ) (two : 1 < q) where
   pos : 0 < q
   pos = omega arith
 
-  none-part : 0 / q ≡ 0
-  none-part = div-eq-of-lt pos
-
-  pub point-none : (k : ℕ) → Cong q (pointDigit q 0 k) 0
-  point-none zero = cof (sym (add-zero _) ∙ ap (λ (x : ℕ). pointDigit q 0 0 + x) (sym none-part)) ⨾ point-low q two 0
-  point-none (suc k) = cof (point-next q two 0 k ∙ ap (λ (x : ℕ). pointDigit q x k) none-part) ⨾ point-none k
-
   -- the point before the first move of b has q - 1 at the unknown before b, and is 0 elsewhere
   pub first : (b k : ℕ) → Cong q (pointDigit q (before q b 0) k + same (suc k) b) 0
   unfolding same before
-  first zero k = cof (add-zero _) ⨾ point-none k
+  first zero k = cof (add-zero _) ⨾ point-none q two k
   first (suc zero) zero = cadd (cof (sym (add-zero _)) ⨾ low-is q two 0 0) (crefl 1) ⨾ cof (whole q pos) ⨾ cwhole 0 1
     where
       whole : (q : ℕ) → 0 < q → q - 1 + 1 ≡ 0 + q * 1

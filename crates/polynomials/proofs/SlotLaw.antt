@@ -15,7 +15,7 @@ use Rattle.gray.proofs.GrayLaw.{gray-step, odd}
 use Rattle.gray.proofs.LatestLaw.{last-zero, last-other, Moves, moves, moves-before, moves-rest, moves-part, latest-self, latest-other, latest-is}
 use Rattle.polynomials.specs.Poly.{Poly, eval, diff, tableOf}
 use Rattle.polynomials.proofs.PolyLaw.{Next, diff-is, eval-cong, eval-none}
-use Rattle.polynomials.proofs.MeanLaw.{point-none, slotOf, slot-first, slot-near, slot-far}
+use Rattle.polynomials.proofs.MeanLaw.{slotOf, slot-first, slot-near, slot-far}
 
 module _ (q : ℕ) (two : 1 < q) (f : Poly) (n : ℕ) where
   pos : 0 < q

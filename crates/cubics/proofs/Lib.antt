@@ -1,0 +1,17 @@
+pub mod ExactLaw
+pub mod CubicLaw
+pub mod Facts
+pub mod LinearLaw
+pub mod DerivedLaw
+pub mod PolarLaw
+pub mod ThirdLaw
+pub mod CubicFormLaw
+pub mod TripleLaw
+pub mod PairLaw
+pub mod SlopeLaw
+pub mod BackLaw
+pub mod BracketLaw
+pub mod AlikeLaw
+pub mod OneSystemLaw
+pub mod ShortLaw
+pub mod CoefficientLaw

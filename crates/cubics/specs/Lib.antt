@@ -1,0 +1,5 @@
+pub mod Cubic
+pub mod Derived
+pub mod Rows
+pub mod Triples
+pub mod Whole

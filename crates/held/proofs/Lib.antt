@@ -1,0 +1,12 @@
+pub mod HeldLaw
+pub mod KeepLaw
+pub mod StemLaw
+pub mod PastLaw
+pub mod ApartLaw
+pub mod NumberLaw
+pub mod RiseLaw
+pub mod PointLaw
+pub mod FlatLaw
+pub mod ConstantLaw
+pub mod DegreeLaw
+pub mod ValuesLaw
