@@ -56,12 +56,15 @@ pub pair-passed : (N m : ℕ) (t : List ℕ) (v : Verdict) → N ≤ legalFront 
 pair-passed N m t v h = rw (le-ltb (legalFront m t) N h)
 
 -- a table that is judged twice is judged once
-pub copy-self : (n m : ℕ) (t : List ℕ) → copyVerdict n m t t ≡ checkedOf n m t
-copy-self n m t = ap (sized n m) (twice (not (eqb (length t) (2 * countOf n))) (paired n m t Done))
+pub entries-self : (N n m : ℕ) (t : List ℕ) → sized n m (entriesVerdict N m t t) ≡ sized n m (longOf N t (pairedOf N m t Done))
+entries-self N n m t = ap (sized n m) (twice (not (eqb (length t) (2 * N))) (pairedOf N m t Done))
   where
     twice : (b : Bool) (v : Verdict) → refuse b Length (refuse b Length v) ≡ refuse b Length v
     twice true v = refl
     twice false v = refl
+
+pub copy-self : (n m : ℕ) (t : List ℕ) → copyVerdict n m t t ≡ checkedOf n m t
+copy-self n = entries-self (countOf n) n
 
 -- from one table of N entries into another, test after test
 module _ (N m : ℕ) (from to : List ℕ) where

@@ -1,3 +1,4 @@
+-- `tables::checks::check_copy` meets its contract: the sizes, and then what its entries say.
 use mathlib.Core.Path.{_≡_, sym, ap, _∙_}
 use Prim.Native.Nat.{ℕ}
 use borrow.Author.Tests.{not-true, not-false}

@@ -1,3 +1,4 @@
+-- `tables::checks::check_entries` meets its contract: one law for each refusal, in the order of the tests.
 use mathlib.Core.Path.{_≡_, sym, _∙_}
 use Rattle.tables.proofs.AnswerLaw.{copy-from, copy-to, copy-pair, copy-done}
 use borrow.Author.Needs.{needs}
