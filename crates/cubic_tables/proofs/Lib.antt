@@ -3,3 +3,4 @@ pub mod NthLaw
 pub mod SumLaw
 pub mod WordsLaw
 pub mod Facts
+pub mod PackLaw

@@ -5,7 +5,7 @@ use Prim.Native.Nat.{ℕ, zero, suc, _+_, _*_, _<_}
 use native.Mathlib.Nat.{add-zero}
 use native.Mathlib.Omega.{arith}
 use Rattle.residues.proofs.ModLaw.{Cong, crefl, cof, _⨾_, cadd, cmul, cwhole}
-use Rattle.gray.specs.Positions.{positions}
+use Rattle.positions.specs.Positions.{positions}
 use Rattle.polynomials.proofs.PolyLaw.{slope-self, slope-below}
 use Rattle.polynomials.proofs.FormLaw.{half-three}
 use Rattle.held.specs.Held.{entry, along}

@@ -4,7 +4,7 @@ use mathlib.Core.List.{List, [], _∷_, map}
 use Prim.Native.Nat.{ℕ, zero, suc, _+_, _%_}
 use Rattle.residues.specs.Sums.{sum, same}
 use Rattle.gray.specs.Numbers.{digit, pointDigit}
-use Rattle.gray.specs.Positions.{lowestIn, lowestOf, positionsIn, positions}
+use Rattle.positions.specs.Positions.{lowestIn, lowestOf, positionsIn, positions}
 use Rattle.polynomials.specs.Poly.{Poly, valueOf}
 use Rattle.held.specs.Held.{begins, firstOf, latestOf, change, entry, move, along}
 use Rattle.cubics.specs.Cubic.{Cubic, cubesOf, cubicOf}

@@ -7,7 +7,7 @@ use native.Mathlib.Nat.{zero-add}
 use native.Mathlib.Omega.{arith}
 use lib.ListN.{length, take}
 use Rattle.residues.proofs.ModLaw.{Cong, crefl, cof, _⨾_, cadd, cmul}
-use Rattle.gray.specs.Positions.{positions}
+use Rattle.positions.specs.Positions.{positions}
 use Rattle.polynomials.specs.Poly.{valueOf, tableOf}
 use Rattle.held.specs.Held.{begins, firstOf, latestOf, change, held, entry, along}
 use Rattle.cubics.specs.Cubic.{Cubic, lowOf, cubesOf, cubicOf}

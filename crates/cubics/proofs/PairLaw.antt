@@ -11,7 +11,7 @@ use Rattle.residues.specs.Sums.{sum, same}
 use Rattle.residues.proofs.ModLaw.{Cong, crefl, cof, csym, _⨾_, cadd, cmul, cancel, cminus}
 use Rattle.residues.proofs.SumLaw.{same-self, same-other, sum-ext, sum-one, sum-zero, sum-both, sum-scale}
 use Rattle.gray.specs.Numbers.{pointDigit}
-use Rattle.gray.specs.Positions.{positions}
+use Rattle.positions.specs.Positions.{positions}
 use Rattle.polynomials.specs.Poly.{Poly, eval, slope}
 use Rattle.held.specs.Held.{begins, firstOf, entry, along}
 use Rattle.cubics.specs.Cubic.{Cubic, cubicOf}

@@ -10,7 +10,7 @@ use native.Mathlib.Omega.{arith}
 use Rattle.residues.specs.Sums.{sum, same}
 use Rattle.residues.proofs.ModLaw.{Cong, crefl, cof, _⨾_, cadd, cmul}
 use Rattle.residues.proofs.SumLaw.{same-self, same-other, sum-ext, sum-zero}
-use Rattle.gray.specs.Positions.{positions}
+use Rattle.positions.specs.Positions.{positions}
 use Rattle.polynomials.specs.Poly.{Poly, eval, slope}
 use Rattle.held.specs.Held.{begins, entry, along}
 use Rattle.cubics.specs.Cubic.{Cubic, cubicOf}

@@ -1,20 +1,16 @@
 -- Each verdict from the tests that the code makes, and the answer that goes with it.
 use mathlib.Core.Path.{_≡_, refl, sym, ap, ap₂, _∙_, subst}
-use mathlib.Core.Bool.{true, false}
 use Prim.Native.Nat.{ℕ, _^_, _<_, _≤_}
 use mathlib.Core.Logic.{by-cases}
 use native.Mathlib.Decide.{decLt}
 use native.Mathlib.Omega.{arith}
-use lib.IntN.{ℤ, pos, negℤ}
-use lib.Signed.{ltZ}
 use borrow.Author.Tests.{lt-ltb, le-ltb, le-leb, lt-leb}
 use Rattle.refusals.specs.declared.Refusal.{Refusal}
 use Rattle.refusals.specs.declared.Refusal.the-variants.{Size, Range}
 use Rattle.refusals.specs.declared.Verdict.{Verdict}
 use Rattle.refusals.specs.declared.Verdict.the-variants as verdict
 use Rattle.refusals.specs.Refusal.{sizedUnknowns}
-use Rattle.gray.specs.Balanced.{halfOf}
-use Rattle.gray.specs.Answers.{convertVerdict, balancedVerdict, pointFrom, placeFrom, balancedFrom, told, pointTold, placeTold, balancedTold}
+use Rattle.gray.specs.Answers.{convertVerdict, pointFrom, placeFrom, told, pointTold, placeTold}
 
 -- a refusal is no acceptance
 refused-done : {r : Refusal} → verdict.Refused r ≡ verdict.Done → ⊥
@@ -41,15 +37,6 @@ range-high n x h l r = sized-so n _ h l ∙ rw (le-leb (3 ^ n) x r)
 pub range-so : (n x : ℕ) → 1 ≤ n → n ≤ 20 → x < 3 ^ n → convertVerdict n x ≡ verdict.Done
 range-so n x h l r = sized-so n _ h l ∙ rw (lt-leb (3 ^ n) x r)
 
-pub ends-low : (n : ℕ) (y : ℤ) → 1 ≤ n → n ≤ 20 → ltZ y (negℤ (pos (halfOf n))) ≡ true → balancedVerdict n y ≡ verdict.Refused Range
-ends-low n y h l a = sized-so n _ h l ∙ rw a
-
-pub ends-high : (n : ℕ) (y : ℤ) → 1 ≤ n → n ≤ 20 → ltZ y (negℤ (pos (halfOf n))) ≡ false → ltZ (pos (halfOf n)) y ≡ true → balancedVerdict n y ≡ verdict.Refused Range
-ends-high n y h l a b = sized-so n _ h l ∙ rw (a, b)
-
-pub ends-so : (n : ℕ) (y : ℤ) → 1 ≤ n → n ≤ 20 → ltZ y (negℤ (pos (halfOf n))) ≡ false → ltZ (pos (halfOf n)) y ≡ false → balancedVerdict n y ≡ verdict.Done
-ends-so n y h l a b = sized-so n _ h l ∙ rw (a, b)
-
 -- what an answer tells is what its verdict tells
 pub point-told : (v : Verdict) (x : ℕ) → pointTold (pointFrom v x) ≡ told v x 0
 point-told verdict.Done x = refl
@@ -58,10 +45,6 @@ point-told (verdict.Refused r) x = refl
 pub place-told : (v : Verdict) (p : ℕ) → placeTold (placeFrom v p) ≡ told v p 0
 place-told verdict.Done p = refl
 place-told (verdict.Refused r) p = refl
-
-pub balanced-told : (v : Verdict) (y : ℤ) → balancedTold (balancedFrom v y) ≡ told v y (pos 0)
-balanced-told verdict.Done y = refl
-balanced-told (verdict.Refused r) y = refl
 
 -- both promises of an answer, from its verdict and its value
 pub point-meets : (v w : Verdict) (x y : ℕ) → w ≡ v → y ≡ x → (pointFrom v y ≡ pointFrom w x) × (pointTold (pointFrom v y) ≡ told w x 0)
@@ -73,11 +56,6 @@ pub place-meets : (v w : Verdict) (x y : ℕ) → w ≡ v → y ≡ x → (place
 place-meets v w x y e f =
     let s : placeFrom v y ≡ placeFrom w x = ap₂ (λ (u : Verdict) (z : ℕ). placeFrom u z) (sym e) f in
     (s, ap placeTold s ∙ place-told w x)
-
-pub balanced-meets : (v w : Verdict) (x y : ℤ) → w ≡ v → y ≡ x → (balancedFrom v y ≡ balancedFrom w x) × (balancedTold (balancedFrom v y) ≡ told w x (pos 0))
-balanced-meets v w x y e f =
-    let s : balancedFrom v y ≡ balancedFrom w x = ap₂ (λ (u : Verdict) (z : ℤ). balancedFrom u z) (sym e) f in
-    (s, ap balancedTold s ∙ balanced-told w x)
 
 -- what is known of n and x once nothing is refused
 pub done-so : (n x : ℕ) → convertVerdict n x ≡ verdict.Done → (1 ≤ n) × (n ≤ 20) × (x < 3 ^ n)

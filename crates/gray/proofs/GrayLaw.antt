@@ -6,8 +6,8 @@ use native.Mathlib.Nat.{add-zero, zero-add, mul-add-div, mul-add-mod-self-left, 
 use native.Mathlib.Decide.{ℕ-discrete, decLt}
 use native.Mathlib.Numerals.{add-one}
 use native.Mathlib.Omega.{arith}
-use Rattle.gray.specs.Positions.{lowestOf, before}
-use Rattle.gray.proofs.LowestLaw.{of-zero, of-other}
+use Rattle.positions.specs.Positions.{lowestOf, before}
+use Rattle.positions.proofs.LowestLaw.{of-zero, of-other}
 use Rattle.residues.specs.Sums.{same}
 use Rattle.gray.specs.Numbers.{digit, pointDigit}
 use Rattle.residues.proofs.ModLaw.{Cong, crefl, cof, csym, _⨾_, cdrop, cadd, cmul, cwhole, cancel, cless, csmall}

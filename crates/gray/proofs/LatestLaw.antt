@@ -5,8 +5,8 @@ use Prim.Native.Nat.{ℕ, zero, suc, _+_, _-_, _*_, _/_, _%_, _^_, _<_, _≤_}
 use native.Mathlib.Nat.{div-eq-of-lt, add-zero, zero-add, mul-one, one-mul, mul-suc, mul-comm, pow-zero, pow-suc, pow-succ', div-one, div-div-eq-div-mul, one-le-pow, mod-eq-of-lt, div-add-mod, mod-lt, mul-div-right}
 use native.Mathlib.Decide.{ℕ-discrete}
 use native.Mathlib.Omega.{arith}
-use Rattle.gray.specs.Positions.{lowestOf, before, lastOf, latest}
-use Rattle.gray.proofs.LowestLaw.{of-zero, of-other, of-times, of-le}
+use Rattle.positions.specs.Positions.{lowestOf, before, lastOf, latest}
+use Rattle.positions.proofs.LowestLaw.{of-zero, of-other, of-times, of-le}
 use Rattle.residues.specs.Sums.{same}
 use Rattle.gray.proofs.GrayLaw.{Stays, Carries, carry, odd}
 use Rattle.residues.proofs.SumLaw.{same-self, same-other}

@@ -1,13 +1,7 @@
-pub mod LowestLaw
-pub mod PositionLaw
 pub mod GrayLaw
 pub mod LatestLaw
-pub mod PartLaw
 pub mod DigitLaw
 pub mod MapLaw
 pub mod TurnLaw
 pub mod AnswerLaw
-pub mod SignLaw
-pub mod BalancedLaw
-pub mod PowerLaw
 pub mod Cases

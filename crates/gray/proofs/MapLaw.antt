@@ -9,7 +9,7 @@ use native.Mathlib.Omega.{arith}
 use Rattle.residues.specs.Sums.{sum, same}
 use Rattle.residues.proofs.ModLaw.{Cong, crefl, cof, csym, _⨾_, cdrop, cadd, cancel, cless, csmall}
 use Rattle.residues.proofs.SumLaw.{sum-ext}
-use Rattle.gray.specs.Positions.{lowestOf}
+use Rattle.positions.specs.Positions.{lowestOf}
 use Rattle.gray.specs.Numbers.{digit, number, pointDigit, pointOf, placeDigit, placeOf}
 use Rattle.gray.proofs.GrayLaw.{gray-step, point-next}
 use Rattle.gray.proofs.DigitLaw.{digit-lt, digit-low, digit-next, digit-above, number-ext, number-lt, digit-number, number-digit}

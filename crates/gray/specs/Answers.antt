@@ -1,8 +1,6 @@
 -- What the conversions answer, in document 01's numbers and values.
 use Prim.Native.Nat.{ℕ, _^_}
 use lib.Dec.{leb}
-use lib.IntN.{ℤ, pos, negℤ}
-use lib.Signed.{ltZ}
 use Rattle.refusals.specs.declared.Refusal.the-variants.{Range}
 use Rattle.refusals.specs.declared.Verdict.{Verdict}
 use Rattle.refusals.specs.declared.Verdict.the-variants as verdict
@@ -11,17 +9,10 @@ use Rattle.gray.specs.declared.PointAnswer.{PointAnswer}
 use Rattle.gray.specs.declared.PointAnswer.the-variants as point
 use Rattle.gray.specs.declared.PlaceAnswer.{PlaceAnswer}
 use Rattle.gray.specs.declared.PlaceAnswer.the-variants as place
-use Rattle.gray.specs.declared.BalancedAnswer.{BalancedAnswer}
-use Rattle.gray.specs.declared.BalancedAnswer.the-variants as balanced
-use Rattle.gray.specs.Balanced.{halfOf}
 
 -- whether place or point x of n unknowns is converted: refusal 1, then 4 at 3 to the n or more
 abbrev pub convertVerdict : ℕ → ℕ → Verdict
 convertVerdict n x = sizedUnknowns n (refuse (leb (3 ^ n) x) Range verdict.Done)
-
--- whether balanced number y is converted: refusal 1, then 4 outside its ends
-abbrev pub balancedVerdict : ℕ → ℤ → Verdict
-balancedVerdict n y = sizedUnknowns n (refuse (ltZ y (negℤ (pos (halfOf n)))) Range (refuse (ltZ (pos (halfOf n)) y) Range verdict.Done))
 
 -- the answer: the value, or the refusal alone
 abbrev pub pointFrom : Verdict → ℕ → PointAnswer
@@ -31,10 +22,6 @@ pointFrom (verdict.Refused r) x = point.Refused r
 abbrev pub placeFrom : Verdict → ℕ → PlaceAnswer
 placeFrom verdict.Done p = place.At (record { 0 = p })
 placeFrom (verdict.Refused r) p = place.Refused r
-
-abbrev pub balancedFrom : Verdict → ℤ → BalancedAnswer
-balancedFrom verdict.Done y = balanced.At y
-balancedFrom (verdict.Refused r) y = balanced.Refused r
 
 -- document 01's number and value of each answer: 0 and the value, or the refusal's number and no value
 abbrev pub told : {A : Type 0} → Verdict → A → A → ℕ × A
@@ -48,7 +35,3 @@ pointTold (point.Refused r) = (numberOf r, 0)
 abbrev pub placeTold : PlaceAnswer → ℕ × ℕ
 placeTold (place.At p) = (0, p .0)
 placeTold (place.Refused r) = (numberOf r, 0)
-
-abbrev pub balancedTold : BalancedAnswer → ℕ × ℤ
-balancedTold (balanced.At y) = (0, y)
-balancedTold (balanced.Refused r) = (numberOf r, pos 0)

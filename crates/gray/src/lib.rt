@@ -1,23 +1,14 @@
-// Places and points of the walk in Gray order, the positions that say which unknown moves, and balanced numbers.
-// Contracts cite specs/Positions and Parts (positions), Numbers (digits and the map), Balanced, and Answers (refusals).
+// Places and points of the walk in Gray order.
+// Contracts cite specs/Numbers (digits and the map) and Answers (refusals).
 use refusals::Refusal;
 
-mod balanced;
 mod map;
-mod positions;
 
-pub use balanced::from_balanced;
-pub use balanced::to_balanced;
+pub use map::convertible;
 pub use map::place_at;
 pub use map::place_of;
 pub use map::point_at;
 pub use map::point_of;
-pub use positions::Parts;
-pub use positions::PositionAnswer;
-pub use positions::first_position;
-pub use positions::position;
-pub use positions::power;
-pub use positions::split;
 
 // A position in the walk, counted from 0.
 pub struct Place(pub u64);
@@ -34,11 +25,5 @@ pub enum PointAnswer {
 // A place, or why there is none.
 pub enum PlaceAnswer {
     At(Place),
-    Refused(Refusal),
-}
-
-// A balanced number, or why there is none.
-pub enum BalancedAnswer {
-    At(i64),
     Refused(Refusal),
 }

@@ -3,7 +3,7 @@ use crate::Place;
 use crate::PlaceAnswer;
 use crate::Point;
 use crate::PointAnswer;
-use crate::positions::power;
+use positions::power;
 use refusals::Refusal;
 use refusals::Verdict;
 ghost use mathlib.Core.Path.{_≡_};
@@ -50,7 +50,7 @@ pub fn place_at(n: u64, x: Point) -> Place
 }
 
 // Whether place or point x of n unknowns is to be converted.
-pub(crate) fn convertible(n: u64, x: u64) -> Verdict
+pub fn convertible(n: u64, x: u64) -> Verdict
     ensures { λ r. ⌜ r ≡ convertVerdict n x ⌝ }
 {
     if n < 1 {

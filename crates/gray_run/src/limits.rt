@@ -16,12 +16,16 @@ const RANGE: u64 = 1000000000004;
 fn refused(t: Tally, n: u64, p: u64, told: u64) -> Tally {
     let a = compare(t, point_told(gray::point_of(n, Place(p))), told);
     let b = compare(a, place_told(gray::place_of(n, Point(p))), told);
-    compare(b, balanced_told(gray::to_balanced(n, Point(p)), 0), told)
+    compare(
+        b,
+        balanced_told(balanced::to_balanced(n, Point(p)), 0),
+        told,
+    )
 }
 
 // Balanced number y gives this point or refusal.
 fn back(t: Tally, n: u64, y: i64, told: u64) -> Tally {
-    compare(t, point_told(gray::from_balanced(n, y)), told)
+    compare(t, point_told(balanced::from_balanced(n, y)), told)
 }
 
 // n outside 1 to 20, and numbers from 3 to the n up.
@@ -56,7 +60,7 @@ fn last(t: Tally) -> Tally {
     compare(
         d,
         balanced_told(
-            gray::to_balanced(20, Point(1743392200)),
+            balanced::to_balanced(20, Point(1743392200)),
             minus(1743392200, 0),
         ),
         0,

@@ -2,13 +2,13 @@
 mod limits;
 mod plain;
 
-use gray::BalancedAnswer;
+use balanced::BalancedAnswer;
 use gray::Place;
 use gray::PlaceAnswer;
 use gray::Point;
 use gray::PointAnswer;
-use gray::PositionAnswer;
 use libc::STDOUT_FILENO;
+use positions::PositionAnswer;
 ghost use Prim.Native.Nat.{_≤_};
 
 // How much was compared, and how much of it differs.
@@ -78,17 +78,17 @@ fn convert(t: Tally, n: u64, p: u64) -> Tally
     let c = compare(b, place_told(gray::place_of(n, Point(point))), p);
     let d = compare(
         c,
-        balanced_told(gray::to_balanced(n, Point(p)), balanced),
+        balanced_told(balanced::to_balanced(n, Point(p)), balanced),
         0,
     );
-    compare(d, point_told(gray::from_balanced(n, balanced)), p)
+    compare(d, point_told(balanced::from_balanced(n, balanced)), p)
 }
 
 // Every number of n unknowns.
 fn convert_all(t: Tally, n: u64) -> Tally
     requires { ⌜ n ≤ 8 ⌝ }
 {
-    let end = gray::power(n);
+    let end = positions::power(n);
     let mut tally = t;
     let mut p: u64 = 0;
     while p < end {
@@ -125,7 +125,7 @@ fn positions_of(t: Tally, p: u64) -> Tally {
     while k < 24 {
         tally = compare(
             tally,
-            position_told(gray::position(p, k)),
+            position_told(positions::position(p, k)),
             plain::position(p, k, REFUSED),
         );
         k += 1;
@@ -141,7 +141,7 @@ fn positions_all(t: Tally) -> Tally {
     while p < 6561 {
         x = stir(x);
         let a = positions_of(tally, p);
-        let parts = gray::split(x);
+        let parts = positions::split(x);
         let b = compare(a, parts.position as u64, plain::position(x, 0, 0));
         tally = positions_of(b, x);
         p += 1;

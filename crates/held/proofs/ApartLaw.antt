@@ -9,8 +9,8 @@ use Rattle.residues.specs.Sums.{same}
 use Rattle.residues.proofs.SumLaw.{same-self, same-other}
 use Rattle.residues.proofs.ModLaw.{Cong, crefl, cof, csym, _⨾_, cdrop, cadd, cwhole, cancel, cminus}
 use Rattle.gray.specs.Numbers.{pointDigit}
-use Rattle.gray.specs.Positions.{lowestOf, positions}
-use Rattle.gray.proofs.LowestLaw.{of-zero, of-other}
+use Rattle.positions.specs.Positions.{lowestOf, positions}
+use Rattle.positions.proofs.LowestLaw.{of-zero, of-other}
 use Rattle.gray.proofs.GrayLaw.{div-of, mod-of, point-low, point-next, gray-step}
 use Rattle.held.proofs.StemLaw.{Stem, placeAt, Room}
 use Rattle.held.proofs.PastLaw.{pastOf, past-near, past-far, below-room, at-least}

@@ -9,9 +9,9 @@ use lib.ListN.{length, take}
 use lib.Seq.{length-take-le}
 use Rattle.residues.proofs.ModLaw.{Cong, crefl, cof, csym, _⨾_, cadd, cmul, cancel, cminus}
 use Rattle.gray.specs.Numbers.{pointDigit}
-use Rattle.gray.specs.Positions.{lowestOf, positions}
-use Rattle.gray.proofs.LowestLaw.{of-times}
-use Rattle.gray.proofs.PositionLaw.{positions-none, positions-next}
+use Rattle.positions.specs.Positions.{lowestOf, positions}
+use Rattle.positions.proofs.LowestLaw.{of-times}
+use Rattle.positions.proofs.PositionLaw.{positions-none, positions-next}
 use Rattle.held.specs.Held.{begins, firstOf, latestOf, change, held, entry, along}
 use Rattle.held.proofs.HeldLaw.{either, begins-self, begins-take, begins-length, take-begins, held-other, held-last, held-now}
 use Rattle.held.proofs.StemLaw.{Stem, root, grow, stemOf, placeAt}

@@ -10,7 +10,7 @@ use lib.ListN.{length, take}
 use Rattle.residues.specs.Sums.{same}
 use Rattle.residues.proofs.SumLaw.{same-self}
 use Rattle.residues.proofs.ModLaw.{Cong}
-use Rattle.gray.specs.Positions.{positions}
+use Rattle.positions.specs.Positions.{positions}
 use Rattle.walks.specs.Cost.{costOf}
 use Rattle.held.specs.Held.{latestOf, held, entry, move, along}
 use Rattle.held.proofs.KeepLaw.{move-self, move-other, move-held}

@@ -11,9 +11,9 @@ use lib.Seq.{take-append-seam}
 use borrow.Author.Tests.{eqb-true, eq-eqb}
 use Rattle.residues.proofs.Every.{and-left, and-right}
 use Rattle.residues.proofs.ModLaw.{Cong, crefl, cof, csym, _⨾_, cadd, cminus}
-use Rattle.gray.specs.Positions.{lowestOf, positions}
-use Rattle.gray.proofs.LowestLaw.{of-le}
-use Rattle.gray.proofs.PositionLaw.{positions-none, positions-next}
+use Rattle.positions.specs.Positions.{lowestOf, positions}
+use Rattle.positions.proofs.LowestLaw.{of-le}
+use Rattle.positions.proofs.PositionLaw.{positions-none, positions-next}
 use Rattle.held.specs.Held.{begins, firstOf, latestOf, change, held}
 
 pub either : {P : Type 0} (t : Bool) → (t ≡ true → P) → (t ≡ false → P) → P

@@ -11,7 +11,7 @@ use lib.ListN.{length, take}
 use borrow.Author.Tests.{ne-eqb}
 use Rattle.residues.proofs.SumLaw.{same-self, same-other}
 use Rattle.residues.proofs.ModLaw.{Cong, cof, csym}
-use Rattle.gray.specs.Positions.{positions}
+use Rattle.positions.specs.Positions.{positions}
 use Rattle.held.specs.Held.{begins, held, move}
 use Rattle.held.proofs.HeldLaw.{held-other, held-last, held-step}
 

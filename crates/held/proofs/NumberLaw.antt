@@ -7,7 +7,7 @@ use Prim.Native.Nat.{ℕ, suc, _+_, _-_, _*_, _/_, _%_, _^_, _<_, _≤_}
 use native.Mathlib.Nat.{mul-suc, mod-lt, div-add-mod, one-le-pow, mul-le-mul-left, div-eq-of-lt}
 use native.Mathlib.Decide.{decLt}
 use native.Mathlib.Omega.{arith}
-use Rattle.gray.specs.Positions.{positions}
+use Rattle.positions.specs.Positions.{positions}
 use Rattle.gray.proofs.GrayLaw.{mod-of}
 use Rattle.held.specs.Held.{begins, firstOf, latestOf}
 use Rattle.held.proofs.HeldLaw.{latest-first}

@@ -7,9 +7,9 @@ use Prim.Native.Nat.{ℕ, zero, suc, _+_, _-_, _*_, _/_, _%_, _^_, _<_, _≤_}
 use native.Mathlib.Nat.{mul-zero, mul-suc, one-mul, pow-zero, mod-lt, mod-eq-of-lt, div-add-mod, one-le-pow, mul-le-mul-left}
 use native.Mathlib.Decide.{ℕ-discrete, decLt}
 use native.Mathlib.Omega.{arith}
-use Rattle.gray.specs.Positions.{positions}
+use Rattle.positions.specs.Positions.{positions}
 use Rattle.gray.proofs.GrayLaw.{Stays, Carries, carry, mod-of}
-use Rattle.gray.proofs.PositionLaw.{positions-none}
+use Rattle.positions.proofs.PositionLaw.{positions-none}
 use Rattle.held.specs.Held.{begins, firstOf, latestOf}
 use Rattle.held.proofs.HeldLaw.{either, begins-append, first-le, first-is, latest-self, latest-other}
 use Rattle.held.proofs.StemLaw.{Stem, root, stemOf, placeAt, Room, Lies, down, up, low}

@@ -7,9 +7,9 @@ use native.Mathlib.Omega.{arith}
 use Rattle.residues.specs.Sums.{same}
 use Rattle.residues.proofs.ModLaw.{Cong, crefl, cof, _⨾_, cadd}
 use Rattle.gray.specs.Numbers.{pointDigit}
-use Rattle.gray.specs.Positions.{positions}
+use Rattle.positions.specs.Positions.{positions}
 use Rattle.gray.proofs.GrayLaw.{point-low, point-next}
-use Rattle.gray.proofs.PositionLaw.{positions-none}
+use Rattle.positions.proofs.PositionLaw.{positions-none}
 use Rattle.held.proofs.StemLaw.{Stem, split, positions-at}
 use Rattle.held.proofs.ApartLaw.{near}
 

@@ -5,9 +5,9 @@ use Prim.Native.Nat.{ℕ, zero, suc, _+_, _*_, _^_, _<_, _≤_}
 use native.Mathlib.Nat.{one-mul, pow-zero, mul-zero, mul-suc, one-le-pow}
 use native.Mathlib.Omega.{arith}
 use lib.ListN.{take}
-use Rattle.gray.specs.Positions.{positions}
-use Rattle.gray.proofs.LowestLaw.{of-lt}
-use Rattle.gray.proofs.PositionLaw.{positions-none}
+use Rattle.positions.specs.Positions.{positions}
+use Rattle.positions.proofs.LowestLaw.{of-lt}
+use Rattle.positions.proofs.PositionLaw.{positions-none}
 use Rattle.held.proofs.StemLaw.{split, joined, lowest-at, positions-at}
 
 -- from c on, none below the one before, all below n

@@ -13,11 +13,11 @@ use borrow.Author.Tests.{eqb-true}
 use Rattle.residues.specs.Sums.{same}
 use Rattle.residues.proofs.Every.{and-left, and-right}
 use Rattle.residues.proofs.SumLaw.{same-self, same-other}
-use Rattle.gray.specs.Positions.{lowestOf, positions}
-use Rattle.gray.proofs.LowestLaw.{of-times, of-other}
+use Rattle.positions.specs.Positions.{lowestOf, positions}
+use Rattle.positions.proofs.LowestLaw.{of-times, of-other}
 use Rattle.gray.proofs.GrayLaw.{Stays, Carries, carry}
 use Rattle.gray.proofs.LatestLaw.{moves}
-use Rattle.gray.proofs.PositionLaw.{positions-none, positions-next}
+use Rattle.positions.proofs.PositionLaw.{positions-none, positions-next}
 use Rattle.held.specs.Held.{begins}
 
 -- the last position, how often it stands at the end, and the digits below it

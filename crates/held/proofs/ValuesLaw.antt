@@ -10,8 +10,8 @@ use native.Mathlib.Omega.{arith}
 use lib.Dec.{eqb}
 use lib.ListN.{take}
 use borrow.Author.Tests.{eq-eqb, ne-eqb}
-use Rattle.gray.specs.Positions.{lowestOf, positions, latest}
-use Rattle.gray.proofs.PositionLaw.{positions-next}
+use Rattle.positions.specs.Positions.{lowestOf, positions, latest}
+use Rattle.positions.proofs.PositionLaw.{positions-next}
 use Rattle.gray.proofs.LatestLaw as one
 use Rattle.held.specs.Held.{begins, firstOf, latestOf, change}
 use Rattle.held.proofs.HeldLaw.{begins-append, latest-self, latest-other}

@@ -6,7 +6,7 @@ use lib.Dec.{eqb}
 use lib.ListN.{length, take}
 use Rattle.residues.specs.Sums.{same}
 use Rattle.gray.specs.Numbers.{pointDigit}
-use Rattle.gray.specs.Positions.{positions}
+use Rattle.positions.specs.Positions.{positions}
 
 -- the values of a function of points, by places
 abbrev pub along : ℕ → ((ℕ → ℕ) → ℕ) → ℕ → ℕ

@@ -52,7 +52,7 @@ fn show(s: Session) {
     io::write_all(STDERR_FILENO, b"\rpoints ");
     io::print_decimal(STDERR_FILENO, s.points);
     io::write_all(STDERR_FILENO, b" of ");
-    io::print_decimal(STDERR_FILENO, gray::power(s.n));
+    io::print_decimal(STDERR_FILENO, positions::power(s.n));
     io::write_all(STDERR_FILENO, b" found ");
     io::print_decimal(STDERR_FILENO, s.found);
 }

@@ -60,7 +60,7 @@ fn start(n: u64, m: u64, words: &[u64], table: &mut [u64], text: &mut [u8]) -> S
     requires { ⌜ Startable n m (now words) (now table) × (51 ≤ length (now text)) ⌝ }
     ensures { λ r. ⌜ Started n m (now (words .entry)) (now (table .exit)) (now (text .exit)) r ⌝ }
 {
-    tables::differences(n, m, words, table);
+    differences::differences(n, m, words, table);
     let o = search::open(n, m, table, Place(0));
     let first = o.record;
     let used = texts::put_head(text, n, m);

@@ -5,11 +5,11 @@ use Prim.Native.Nat.{ℕ, zero, suc, _+_, _-_, _*_, _/_, _%_, _^_, _<_, _≤_}
 use native.Mathlib.Nat.{mod-lt, add-zero, mul-one, mul-zero, one-le-pow, mod-eq-of-lt}
 use native.Mathlib.Decide.{ℕ-discrete, decLt}
 use native.Mathlib.Omega.{arith}
-use Rattle.gray.specs.Positions.{lowestOf}
-use Rattle.gray.proofs.LowestLaw.{of-le, of-times, of-level, of-other}
+use Rattle.positions.specs.Positions.{lowestOf}
+use Rattle.positions.proofs.LowestLaw.{of-le, of-times, of-level, of-other}
 use Rattle.residues.specs.Sums.{sum, same}
 use Rattle.polynomials.specs.Poly.{Poly, valueOf, changeOf, eval, diff, prev, tableOf, backOf, prevOf, bumped}
-use Rattle.gray.specs.Positions.{latest}
+use Rattle.positions.specs.Positions.{latest}
 use Rattle.residues.proofs.ModLaw.{Cong, crefl, cof, csym, _⨾_, cdrop, cadd, cmul, cancel, cminus, csmall}
 use Rattle.residues.proofs.SumLaw.{sum-scale, sum-ext, sum-add}
 use Rattle.polynomials.proofs.PolyLaw.{Next, diff-is}

@@ -4,12 +4,12 @@ use mathlib.Core.Logic.{by-cases}
 use Prim.Native.Nat.{ℕ, zero, suc, _+_, _-_, _*_, _/_, _%_, _<_, _≤_}
 use native.Mathlib.Nat.{div-eq-of-lt, add-zero, zero-add}
 use native.Mathlib.Omega.{arith}
-use Rattle.gray.specs.Positions.{lowestOf}
-use Rattle.gray.proofs.LowestLaw.{of-zero, of-other}
+use Rattle.positions.specs.Positions.{lowestOf}
+use Rattle.positions.proofs.LowestLaw.{of-zero, of-other}
 use Rattle.residues.specs.Sums.{sum, same}
 use Rattle.polynomials.specs.Poly.{Poly, eval, slope, diff, prev, tableOf}
 use Rattle.gray.specs.Numbers.{pointDigit}
-use Rattle.gray.specs.Positions.{before}
+use Rattle.positions.specs.Positions.{before}
 use Rattle.residues.proofs.ModLaw.{Cong, crefl, cof, csym, _⨾_, cdrop, cadd, cmul, cwhole, cancel}
 use Rattle.held.proofs.PointLaw.{point-none}
 use Rattle.gray.proofs.GrayLaw.{point-next, low-is, before-low, before-part, near, far}

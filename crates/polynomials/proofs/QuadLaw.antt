@@ -12,8 +12,8 @@ use borrow.Author.Tests.{eq-eqb, ne-eqb}
 use Rattle.residues.specs.Sums.{same}
 use Rattle.residues.proofs.ModLaw.{Cong, crefl, cof, csym, _⨾_, cadd, cancel, cminus}
 use Rattle.gray.specs.Numbers.{pointDigit}
-use Rattle.gray.specs.Positions.{lowestOf, positions, latest, before}
-use Rattle.gray.proofs.PositionLaw.{positions-none, positions-next}
+use Rattle.positions.specs.Positions.{lowestOf, positions, latest, before}
+use Rattle.positions.proofs.PositionLaw.{positions-none, positions-next}
 use Rattle.gray.proofs.GrayLaw.{gray-step}
 use Rattle.gray.proofs.LatestLaw as one
 use Rattle.polynomials.specs.Poly.{Poly, valueOf, changeOf, eval, diff, tableOf}

@@ -8,9 +8,9 @@ use native.Mathlib.Omega.{arith}
 use Rattle.residues.specs.Sums.{sum, same}
 use Rattle.residues.proofs.ModLaw.{Cong, crefl, cof, csym, _⨾_, cdrop, cadd}
 use Rattle.residues.proofs.SumLaw.{same-self, same-other}
-use Rattle.gray.specs.Positions.{lowestOf, before, lastOf, latest}
+use Rattle.positions.specs.Positions.{lowestOf, before, lastOf, latest}
 use Rattle.gray.specs.Numbers.{pointDigit}
-use Rattle.gray.proofs.LowestLaw.{of-zero, of-other, of-times, of-lt}
+use Rattle.positions.proofs.LowestLaw.{of-zero, of-other, of-times, of-lt}
 use Rattle.gray.proofs.GrayLaw.{gray-step, odd}
 use Rattle.gray.proofs.LatestLaw.{last-zero, last-other, Moves, moves, moves-before, moves-rest, moves-part, latest-self, latest-other, latest-is}
 use Rattle.polynomials.specs.Poly.{Poly, eval, diff, tableOf}

@@ -10,7 +10,7 @@ use native.Mathlib.Omega.{arith}
 use lib.ListN.{length, getD, set}
 use lib.Seq.{getD-set-same, getD-set-other}
 use Rattle.gray.specs.Numbers.{digit, pointDigit}
-use Rattle.gray.specs.Positions.{latest, before, lastOf}
+use Rattle.positions.specs.Positions.{latest, before, lastOf}
 use Rattle.gray.proofs.LatestLaw.{before-is, latest-is, last-zero, last-other}
 
 pub two : 1 < 3

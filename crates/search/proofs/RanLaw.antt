@@ -17,7 +17,7 @@ use Rattle.trits.specs.Trit.{trit, Legal, ofTrits, none}
 use Rattle.trits.proofs.Bits.{and-left, and-right}
 use Rattle.trits.proofs.ExtLaw.{trit-of, legal-of}
 use Rattle.trits.proofs.LegalLaw.{legal-none, trit-lt}
-use Rattle.gray.specs.Positions.{latest}
+use Rattle.positions.specs.Positions.{latest}
 use Rattle.gray.specs.Numbers.{pointDigit}
 use Rattle.polynomials.specs.Poly.{Poly, valueOf, changeOf, eval, diff, tableOf, backOf}
 use Rattle.polynomials.proofs.FormLaw.{eval-value, diff-change, table-back, half-three}

@@ -9,9 +9,9 @@ use Rattle.residues.specs.Residue.{floorMod}
 use Rattle.residues.specs.Sums.{sum, same}
 use Rattle.trits.specs.Trit.{bit, trit, fromBits, ofTrits}
 use Rattle.trits.specs.Words.{productOf}
-use Rattle.gray.specs.Positions.{lowestIn, lowestOf, positionsIn, positions, latest}
+use Rattle.positions.specs.Positions.{lowestIn, lowestOf, positionsIn, positions, latest}
 use Rattle.gray.specs.Numbers.{digit, number, pointDigit, pointOf}
-use Rattle.gray.specs.Balanced.{signedDigit, balancedOf}
+use Rattle.balanced.specs.Balanced.{signedDigit, balancedOf}
 use Rattle.polynomials.specs.Poly.{Poly, valueOf, bumped, changeOf, prev, tableOf, prevOf, backOf}
 use Rattle.tables.specs.Monomials.{countOf, rowStart, indexOf, productNth, nth}
 use Rattle.tables.specs.Words.{entry, tabled, legalFront, polyAt, wordsOf, packed, differencesOf}

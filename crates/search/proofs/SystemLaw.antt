@@ -17,7 +17,7 @@ use Rattle.residues.proofs.SumLaw.{sum-cong, sum-ext}
 use Rattle.trits.specs.declared.Vector.{Vector}
 use Rattle.trits.specs.Trit.{Holds, ofTrits, none}
 use Rattle.trits.proofs.ExtLaw.{of-ext}
-use Rattle.gray.specs.Positions.{latest}
+use Rattle.positions.specs.Positions.{latest}
 use Rattle.gray.specs.Numbers.{pointDigit}
 use Rattle.polynomials.specs.Poly.{Poly, valueOf, changeOf, slope, diff, backOf}
 use Rattle.polynomials.proofs.FormLaw.{diff-change}

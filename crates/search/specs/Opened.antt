@@ -11,7 +11,7 @@ use Rattle.refusals.specs.declared.Verdict.the-variants.{Done, Refused}
 use Rattle.refusals.specs.Refusal.{refuse, sized, after}
 use Rattle.trits.specs.declared.Vector.{Vector}
 use Rattle.trits.specs.Trit.{ofTrits, none}
-use Rattle.gray.specs.Positions.{latest}
+use Rattle.positions.specs.Positions.{latest}
 use Rattle.gray.specs.Numbers.{pointDigit}
 use Rattle.polynomials.specs.Poly.{Poly, valueOf, changeOf, backOf}
 use Rattle.tables.specs.Words.{polyAt}

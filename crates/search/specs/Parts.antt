@@ -6,7 +6,7 @@ use lib.Dec.{eqb}
 use lib.ListN.{length, getD}
 use Rattle.trits.specs.declared.Vector.{Vector}
 use Rattle.trits.specs.Trit.{Holds, none}
-use Rattle.gray.specs.Positions.{latest}
+use Rattle.positions.specs.Positions.{latest}
 use Rattle.gray.specs.Numbers.{pointDigit}
 use Rattle.polynomials.specs.Poly.{diff}
 use Rattle.tables.specs.Words.{Table, polyAt}

@@ -26,7 +26,7 @@ fn fits_table(n: u64, m: u64, table: &[u64], r: Record) -> bool
     ensures { λ b. ⌜ b ≡ fits n m (now (table .entry)) r ⌝ }
 {
     let at = r.place.0;
-    if at > gray::power(n) {
+    if at > positions::power(n) {
         return false;
     }
     let o = opened(n, m, table, at);
@@ -87,7 +87,7 @@ fn ran(n: u64, m: u64, table: &[u64], r: Record, budget: u64, list: &mut [u64]) 
         value,
         slots,
     };
-    let end = gray::power(n);
+    let end = positions::power(n);
     let len = list.len();
     let t = walk::run(table, n as usize, end, w, budget, list);
     reported(n, m, from, end, len, t)

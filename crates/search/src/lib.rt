@@ -62,7 +62,7 @@ fn open_checked(n: u64, m: u64, table: &[u64], at: u64) -> Opened
     requires { ⌜ checkedOf n m (now table) ≡ Done ⌝ }
     ensures { λ r. ⌜ r ≡ openOf n m (now (table .entry)) at ⌝ }
 {
-    if at > gray::power(n) {
+    if at > positions::power(n) {
         return refused(Refusal::Range);
     }
     let record = opened(n, m, table, at);

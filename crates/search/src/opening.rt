@@ -8,7 +8,7 @@ ghost use mathlib.Core.List.{List};
 ghost use Prim.Native.Nat.{ℕ, _+_, _-_, _*_, _%_, _^_, _<_, _≤_};
 ghost use lib.ListN.{length, getD};
 ghost use Rattle.trits.specs.Trit.{Holds};
-ghost use Rattle.gray.specs.Positions.{latest, lastOf};
+ghost use Rattle.positions.specs.Positions.{latest, lastOf};
 ghost use Rattle.gray.specs.Numbers.{pointDigit};
 ghost use Rattle.polynomials.specs.Poly.{slope, diff};
 ghost use Rattle.tables.specs.Words.{polyAt, Table};
@@ -127,8 +127,8 @@ fn fill(n: u64, m: u64, table: &[u64], place: u64, c: &mut [u64]) -> Record
     let k = n as usize;
     let q = latest_place(place);
     let x = digits(k, q);
-    tables::coefficients(n, m, table, c);
-    let value = tables::value_at(c, k, &x);
+    differences::coefficients(n, m, table, c);
+    let value = evaluation::value_at(c, k, &x);
     let slots = slots(c, k, q);
     Record {
         n,

@@ -2,24 +2,20 @@
 use mathlib.Core.Path.{_≡_, refl, sym, ap, _∙_}
 use mathlib.Core.Bool.{Bool, true, false, not, true≢false, false≢true}
 use mathlib.Core.List.{List}
-use Prim.Native.Nat.{ℕ, _*_, _^_, _≤_, _<_}
+use Prim.Native.Nat.{ℕ, _*_, _≤_, _<_}
 use native.Mathlib.Omega.{arith}
-use lib.Dec.{ltb, leb, eqb}
-use lib.IntN.{ℤ}
+use lib.Dec.{ltb, eqb}
 use lib.ListN.{length}
-use borrow.Author.Tests.{lt-ltb, le-ltb, le-leb, lt-leb, eq-eqb, ne-eqb, ltb-false, eqb-true, not-false}
+use borrow.Author.Tests.{lt-ltb, le-ltb, eq-eqb, ne-eqb, ltb-false, eqb-true, not-false}
 use Rattle.refusals.specs.declared.Refusal.{Refusal}
-use Rattle.refusals.specs.declared.Refusal.the-variants.{Size, Length, Pair, Range}
+use Rattle.refusals.specs.declared.Refusal.the-variants.{Size, Length, Pair}
 use Rattle.refusals.specs.declared.Verdict.{Verdict}
 use Rattle.refusals.specs.declared.Verdict.the-variants.{Done, Refused}
-use Rattle.refusals.specs.Refusal.{codeOf, refuse, sized}
+use Rattle.refusals.specs.Refusal.{refuse, sized}
 use Rattle.refusals.proofs.RefusalLaw.{done-test, done-next, refuse-none, sized-within, sized-done, refused-next, refused-last}
 use Rattle.tables.specs.Monomials.{countOf}
-use Rattle.tables.specs.Words.{legalFront, Entries, Table, valuesAt}
-use Rattle.tables.specs.Answers.{SizeTest, longOf, long, pairedOf, paired, checkedOf, entriesVerdict, copyVerdict, packVerdict, evaluateVerdict, valued, evaluateOf, evaluatedCode, evaluatedWords, wordsFrom, Tells}
-use Rattle.trits.specs.declared.Vector.{Vector}
-use Rattle.tables.specs.declared.Evaluated.{Evaluated}
-use Rattle.tables.specs.declared.Evaluated.the-variants as evaluated
+use Rattle.tables.specs.Words.{legalFront, Entries, Table}
+use Rattle.tables.specs.Answers.{SizeTest, longOf, long, pairedOf, paired, checkedOf, entriesVerdict, copyVerdict}
 use Rattle.tables.proofs.WordLaw.{front-of}
 
 -- refusal 1
@@ -132,7 +128,7 @@ refuse-then b s r f v h e = refused-next b s r (f Done) (f v) e h
 refuse-pass : (b : Bool) (s : Refusal) (f : Verdict → Verdict) (v : Verdict) → (f Done ≡ Done → f v ≡ v) → refuse b s (f Done) ≡ Done → refuse b s (f v) ≡ v
 refuse-pass b s f v h e = refuse-none b s (f v) (done-test b s (f Done) e) ∙ h (done-next b s (f Done) e)
 
-abbrev then : ℕ → ℕ → List ℕ → Verdict → Verdict
+abbrev pub then : ℕ → ℕ → List ℕ → Verdict → Verdict
 then n m t v = sized n m (long n t (paired n m t v))
 
 -- a refusal of the table comes before what is asked next
@@ -153,42 +149,3 @@ checked-passed n m t v =
     (refuse-pass (ltb 64 m) Size (λ u. long n t (paired n m t u)) v
     (refuse-pass (not (eqb (length t) (2 * countOf n))) Length (λ u. paired n m t u) v
     (λ e. refuse-none (ltb (legalFront m t) (countOf n)) Pair v (done-test (ltb (legalFront m t) (countOf n)) Pair Done e))))))
-
--- an evaluation tells document 01's number and values
-tells-by : (v : Verdict) (w : Vector) → (evaluatedCode (valued v w) ≡ codeOf v) × (evaluatedWords (valued v w) ≡ wordsFrom v w)
-tells-by Done w = (refl, refl)
-tells-by (Refused r) w = (refl, refl)
-
-pub tells-of : (n m : ℕ) (c : List ℕ) (x : ℕ) (r : Evaluated) → r ≡ evaluateOf n m c x → Tells n m c x r
-tells-of n m c x r e =
-    let k = tells-by (evaluateVerdict n m c x) (valuesAt n m c x) in
-    record { number = ap evaluatedCode e ∙ k .0; values = ap evaluatedWords e ∙ k .1 }
-
--- evaluation, case by case
-pub value-refused : (n m : ℕ) (t : List ℕ) (x : ℕ) (r : Refusal) → checkedOf n m t ≡ Refused r → evaluateOf n m t x ≡ evaluated.Refused r
-value-refused n m t x r e = ap (λ (v : Verdict). valued v (valuesAt n m t x)) (checked-refused n m t r (refuse (leb (3 ^ n) x) Range Done) e)
-
-pub value-outside : (n m : ℕ) (t : List ℕ) (x : ℕ) → checkedOf n m t ≡ Done → 3 ^ n ≤ x → evaluateOf n m t x ≡ evaluated.Refused Range
-value-outside n m t x e h =
-    ap (λ (v : Verdict). valued v (valuesAt n m t x))
-    (checked-passed n m t (refuse (leb (3 ^ n) x) Range Done) e ∙ ap (λ (b : Bool). refuse b Range Done) (le-leb (3 ^ n) x h))
-
-pub value-inside : (n m : ℕ) (t : List ℕ) (x : ℕ) → checkedOf n m t ≡ Done → x < 3 ^ n → evaluateOf n m t x ≡ evaluated.Value (valuesAt n m t x)
-value-inside n m t x e h =
-    ap (λ (v : Verdict). valued v (valuesAt n m t x))
-    (checked-passed n m t (refuse (leb (3 ^ n) x) Range Done) e ∙ ap (λ (b : Bool). refuse b Range Done) (lt-leb (3 ^ n) x h))
-
--- ---- packing, test after test
-module _ (n m : ℕ) (rows : List ℤ) (t : List ℕ) (sizes : (v : Verdict) → sized n m v ≡ v) (k : ℕ) (count : k ≡ countOf n) where
-  pub pack-rows : (length rows ≡ m * k → ⊥) → packVerdict n m rows t ≡ Refused Length
-  pack-rows d = sizes _ ∙ rw (ne-eqb (length rows) (m * countOf n) (λ e. d (e ∙ ap (λ (x : ℕ). m * x) (sym count))))
-
-  module _ (read : length rows ≡ m * k) where
-    rows-passed : packVerdict n m rows t ≡ long n t Done
-    rows-passed = sizes _ ∙ rw (eq-eqb (length rows) (m * countOf n) (read ∙ ap (λ (x : ℕ). m * x) count))
-
-    pub pack-table : (length t ≡ 2 * k → ⊥) → packVerdict n m rows t ≡ Refused Length
-    pack-table d = rows-passed ∙ long-refused (countOf n) t Done (λ e. d (e ∙ ap (λ (x : ℕ). 2 * x) (sym count)))
-
-    pub pack-done : length t ≡ 2 * k → packVerdict n m rows t ≡ Done
-    pack-done e = rows-passed ∙ long-passed (countOf n) t Done (e ∙ ap (λ (x : ℕ). 2 * x) count)

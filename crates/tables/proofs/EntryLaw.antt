@@ -8,10 +8,10 @@ use native.Mathlib.Decide.{ℕ-discrete}
 use native.Mathlib.Omega.{arith}
 use Rattle.residues.proofs.ModLaw.{Cong, cof, _⨾_, cdrop, csmall, cadd, crefl}
 use Rattle.trits.specs.Trit.{trit}
-use Rattle.gray.specs.Positions.{lowestOf, latest, before}
+use Rattle.positions.specs.Positions.{lowestOf, latest, before}
 use Rattle.gray.specs.Numbers.{pointDigit}
 use Rattle.gray.proofs.LatestLaw.{before-is}
-use Rattle.gray.proofs.LowestLaw.{of-lt}
+use Rattle.positions.proofs.LowestLaw.{of-lt}
 use Rattle.polynomials.specs.Poly.{Poly, prev, changeOf, diff, tableOf}
 use Rattle.polynomials.proofs.TableLaw.{same-is, other-is, table-lin}
 use Rattle.polynomials.proofs.FormLaw.{three-same, three-other, diff-change}

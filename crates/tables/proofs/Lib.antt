@@ -7,7 +7,4 @@ pub mod EntryLaw
 pub mod AnswerLaw
 pub mod VectorLaw
 pub mod WriteLaw
-pub mod TurnLaw
-pub mod EvaluateLaw
-pub mod PackLaw
 pub mod Cases

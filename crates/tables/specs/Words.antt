@@ -2,14 +2,13 @@
 use mathlib.Core.Path.{_≡_}
 use mathlib.Core.Bool.{Bool, true, false}
 use mathlib.Core.List.{List, [], _∷_}
-use Prim.Native.Nat.{ℕ, zero, suc, _+_, _-_, _*_, _≤_, _<_}
+use Prim.Native.Nat.{ℕ, zero, suc, _+_, _*_, _≤_, _<_}
 use lib.IntN.{ℤ, pos}
 use lib.ListN.{length, getD, set}
 use Rattle.residues.specs.Residue.{floorMod}
-use Rattle.residues.specs.Sums.{sum}
 use Rattle.trits.specs.declared.Vector.{Vector}
-use Rattle.trits.specs.Trit.{trit, Legal, ofTrits, none}
-use Rattle.trits.specs.Words.{isLegal, Put}
+use Rattle.trits.specs.Trit.{trit, Legal, ofTrits}
+use Rattle.trits.specs.Words.{isLegal}
 use Rattle.gray.specs.Numbers.{digit}
 use Rattle.polynomials.specs.Poly.{Poly, valueOf, tableOf, backOf}
 use Rattle.tables.specs.Monomials.{countOf, indexOf, nth}
@@ -27,33 +26,6 @@ pub record Written (g : List ℕ) (a b : ℕ) (old new : List ℕ) : Type 0 wher
   pub size : length new ≡ length old
   pub here : (k : ℕ) → a ≤ k → k < b → entry new k ≡ entry g k
   pub kept : (k : ℕ) → (a ≤ k → k < b → ⊥) → entry new k ≡ entry old k
-
--- the constant, the unknowns before i and their products stand in t as they do in g
-pub record Filled (g : List ℕ) (n i : ℕ) (t : List ℕ) : Type 0 where
-  pub singles : (k : ℕ) → k < 1 + i → entry t k ≡ entry g k
-  pub products : (k : ℕ) → 1 + n ≤ k → k < indexOf n i i → entry t k ≡ entry g k
-
--- the entry of the unknown before i and i, of which there is none at i = 0
-unfoldable pub beforeOf : ℕ → List ℕ → ℕ → Vector
-beforeOf n c zero = none
-beforeOf n c (suc i) = entry c (indexOf n i (suc i))
-
--- the later products of unknown i stand in g as they do in t, with f e more in equation e
-abbrev pub Products : ℕ → ℕ → ℕ → List ℕ → (ℕ → ℕ) → List ℕ → Type 0
-Products n m i t f g = (j : ℕ) → i < j → j < n → entry g (indexOf n i j) ≡ ofTrits m (λ e. trit (entry t (indexOf n i j)) e + f e)
-
--- what stands in g for unknown i: the differences of the coefficients t, and as well the coefficients of the differences t.
--- p is the coefficient of the unknown before i and i; modulo 3 half is 2, so both directions are the same formulas.
-pub record Turned (n m i : ℕ) (t : List ℕ) (p : Vector) (g : List ℕ) : Type 0 where
-  pub single : entry g (1 + i) ≡ ofTrits m (λ e. trit (entry t (1 + i)) e + trit (entry t (indexOf n i i)) e + 2 * trit p e)
-  pub square : entry g (indexOf n i i) ≡ ofTrits m (λ e. 2 * (trit (entry t (indexOf n i i)) e + trit p e))
-  pub products : Products n m i t (λ e. trit p e + 2 * trit (entry t (indexOf n i i)) e) g
-
--- new is old with the remainders of the first k numbers of a row as trit e of the first k entries
-pub record RowPacked (row : List ℤ) (e k : ℕ) (old new : List ℕ) : Type 0 where
-  pub size : length new ≡ length old
-  pub packed : (j : ℕ) → j < k → Put (entry old j) e (floorMod 3 (getD row j (pos 0))) (entry new j)
-  pub kept : (j : ℕ) → k ≤ j → entry new j ≡ entry old j
 
 -- the words of the k vectors g 0, g 1, ..
 unfoldable pub tabled : ℕ → (ℕ → Vector) → List ℕ
@@ -97,10 +69,6 @@ differencesOf n m c = wordsOf n m (λ e. tableOf 3 (polyAt n c e))
 
 unfoldable pub coefficientsOf : ℕ → ℕ → List ℕ → List ℕ
 coefficientsOf n m t = wordsOf n m (λ e. backOf 3 2 (polyAt n t e))
-
--- what unknown i is multiplied by at x: its own coefficient, and those of its products with itself and the later ones
-unfoldable pub rowOf : Poly → ℕ → ℕ → (ℕ → ℕ) → ℕ
-rowOf f n i x = f .lin i + sum (n - i) (λ d. f .quad i (i + d) * x (i + d))
 
 -- the value of each equation of a coefficient table at point number x
 unfoldable pub valuesAt : ℕ → ℕ → List ℕ → ℕ → Vector

@@ -64,7 +64,7 @@ pub fn check_entries(m: u64, entries: usize, from: &[u64], words: usize) -> Verd
 }
 
 // The same for tables of n unknowns: their sizes come first.
-pub(crate) fn check_copy(n: u64, m: u64, from: &[u64], words: usize) -> Verdict
+pub fn check_copy(n: u64, m: u64, from: &[u64], words: usize) -> Verdict
     ensures { λ r. ⌜ ((to : List ℕ) → length to ≡ words → r ≡ copyVerdict n m (now (from .entry)) to) ⌝ }
 {
     if !sizes(n, m) {

@@ -96,7 +96,7 @@ fn differences(n: u64, m: u64, from: &[u64], read: usize, to: &mut [u64], write:
     if write > to.len() {
         return 99;
     }
-    code(tables::differences(n, m, &from[..read], &mut to[..write]))
+    code(differences::differences(n, m, &from[..read], &mut to[..write]))
 }
 
 fn coefficients(n: u64, m: u64, from: &[u64], read: usize, to: &mut [u64], write: usize) -> u64 {
@@ -106,7 +106,7 @@ fn coefficients(n: u64, m: u64, from: &[u64], read: usize, to: &mut [u64], write
     if write > to.len() {
         return 99;
     }
-    code(tables::coefficients(n, m, &from[..read], &mut to[..write]))
+    code(differences::coefficients(n, m, &from[..read], &mut to[..write]))
 }
 
 fn packed(n: u64, m: u64, rows: &[i8], read: usize, to: &mut [u64], write: usize) -> u64 {
@@ -116,7 +116,7 @@ fn packed(n: u64, m: u64, rows: &[i8], read: usize, to: &mut [u64], write: usize
     if write > to.len() {
         return 99;
     }
-    code(tables::pack(n, m, &rows[..read], &mut to[..write]))
+    code(rows::pack(n, m, &rows[..read], &mut to[..write]))
 }
 
 fn checked(n: u64, m: u64, table: &[u64], read: usize) -> u64 {
@@ -130,7 +130,7 @@ fn valued(n: u64, m: u64, table: &[u64], read: usize, x: u64) -> u64 {
     if read > table.len() {
         return 99;
     }
-    evaluated(tables::evaluate(n, m, &table[..read], Point(x)))
+    evaluated(evaluation::evaluate(n, m, &table[..read], Point(x)))
 }
 
 // How many words are lent: one too few or too many where that is the fault.

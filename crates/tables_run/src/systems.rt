@@ -35,7 +35,7 @@ pub(crate) fn coefficients() -> Tally {
 fn coefficient(c: u64) -> bool {
     let rows = [signed(c), 0, 0];
     let mut table = [7u64; 6];
-    let verdict = tables::pack(1, 1, &rows, &mut table);
+    let verdict = rows::pack(1, 1, &rows, &mut table);
     let v = Vector {
         high: table[0],
         low: table[1],
@@ -60,7 +60,7 @@ fn fill(rows: &mut [i8; NUMBERS], plain: &mut [u64; NUMBERS], seed: u64) {
 
 // How many equations have another value at x than plain arithmetic gives.
 fn wrong_values(n: u64, m: u64, plain: &[u64], table: &[u64], entries: usize, x: u64) -> u64 {
-    let answer = tables::evaluate(n, m, table, Point(x));
+    let answer = evaluation::evaluate(n, m, table, Point(x));
     let Evaluated::Value(v) = answer else {
         return 1000;
     };
@@ -86,9 +86,9 @@ fn turned(n: u64, m: u64, from: &[u64], to: &mut [u64], words: usize, back: bool
         return false;
     }
     if back {
-        return code(tables::coefficients(n, m, &from[..words], &mut to[..words])) == 0;
+        return code(differences::coefficients(n, m, &from[..words], &mut to[..words])) == 0;
     }
-    code(tables::differences(n, m, &from[..words], &mut to[..words])) == 0
+    code(differences::differences(n, m, &from[..words], &mut to[..words])) == 0
 }
 
 // Whether one table comes back from its differences, or as a table of differences from its coefficients.
@@ -112,7 +112,7 @@ fn packed(n: u64, m: u64, rows: &[i8], numbers: usize, table: &mut [u64], words:
     if words > table.len() {
         return false;
     }
-    if code(tables::pack(n, m, &rows[..numbers], &mut table[..words])) != 0 {
+    if code(rows::pack(n, m, &rows[..numbers], &mut table[..words])) != 0 {
         return false;
     }
     code(tables::check(n, m, &table[..words])) == 0

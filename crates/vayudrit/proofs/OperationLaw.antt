@@ -15,7 +15,8 @@ use Rattle.refusals.specs.declared.Verdict.the-variants.{Done, Refused}
 use Rattle.refusals.specs.Refusal.{codeOf, refuse, after}
 use Rattle.refusals.proofs.RefusalLaw.{done-test, done-next, refuse-none, sized-within, sized-next, sized-done}
 use Rattle.trits.specs.declared.Vector.{Vector}
-use Rattle.gray.specs.Answers.{pointFrom, placeFrom, balancedFrom}
+use Rattle.gray.specs.Answers.{pointFrom, placeFrom}
+use Rattle.balanced.specs.Answers.{balancedFrom}
 use Rattle.tables.specs.Answers.{valued, evaluatedCode}
 use Rattle.vayudrit.specs.Operations.{room, single, vectorWords}
 use Rattle.vayudrit.specs.Puts.{pointNumber, pointPut, placeNumber, placePut, balancedNumber, balancedPut, valuePut}

@@ -10,8 +10,9 @@ use Rattle.refusals.specs.declared.Verdict.{Verdict}
 use Rattle.refusals.specs.Refusal.{refuse, sized, sizedUnknowns, after}
 use Rattle.trits.specs.declared.Vector.{Vector}
 use Rattle.gray.specs.Numbers.{pointOf, placeOf}
-use Rattle.gray.specs.Balanced.{balancedOf, unbalancedOf}
-use Rattle.gray.specs.Answers.{convertVerdict, balancedVerdict}
+use Rattle.balanced.specs.Balanced.{balancedOf, unbalancedOf}
+use Rattle.gray.specs.Answers.{convertVerdict}
+use Rattle.balanced.specs.Answers.{balancedVerdict}
 use Rattle.tables.specs.Words.{valuesAt}
 use Rattle.tables.specs.Answers.{evaluateVerdict}
 use Rattle.search.specs.Opened.{openedAt, openVerdict}

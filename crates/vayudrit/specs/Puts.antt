@@ -7,8 +7,8 @@ use Rattle.gray.specs.declared.PointAnswer.{PointAnswer}
 use Rattle.gray.specs.declared.PointAnswer.the-variants as point
 use Rattle.gray.specs.declared.PlaceAnswer.{PlaceAnswer}
 use Rattle.gray.specs.declared.PlaceAnswer.the-variants as place
-use Rattle.gray.specs.declared.BalancedAnswer.{BalancedAnswer}
-use Rattle.gray.specs.declared.BalancedAnswer.the-variants as balanced
+use Rattle.balanced.specs.declared.BalancedAnswer.{BalancedAnswer}
+use Rattle.balanced.specs.declared.BalancedAnswer.the-variants as balanced
 use Rattle.tables.specs.declared.Evaluated.{Evaluated}
 use Rattle.tables.specs.declared.Evaluated.the-variants as evaluated
 

@@ -20,7 +20,7 @@ pub extern "C" fn vayudrit_pack(n: u64, m: u64, rows: &[i8], table: &mut [u64]) 
     ensures { λ c. ⌜ (c ≡ codeOf (packVerdict n m (now (rows .entry)) (now (table .entry))))
         × (now (table .exit) ≡ packAfter n m (now (rows .entry)) (now (table .entry))) ⌝ }
 {
-    let v = tables::pack(n, m, rows, table);
+    let v = rows::pack(n, m, rows, table);
     refusals::code(v)
 }
 
@@ -44,7 +44,7 @@ pub extern "C" fn vayudrit_differences(
     ensures { λ c. ⌜ (c ≡ codeOf (copyVerdict n m (now (coefficients .entry)) (now (table .entry))))
         × (now (table .exit) ≡ differencesAfter n m (now (coefficients .entry)) (now (table .entry))) ⌝ }
 {
-    let v = tables::differences(n, m, coefficients, table);
+    let v = differences::differences(n, m, coefficients, table);
     refusals::code(v)
 }
 
@@ -59,7 +59,7 @@ pub extern "C" fn vayudrit_coefficients(
     ensures { λ c. ⌜ (c ≡ codeOf (copyVerdict n m (now (table .entry)) (now (coefficients .entry))))
         × (now (coefficients .exit) ≡ coefficientsAfter n m (now (table .entry)) (now (coefficients .entry))) ⌝ }
 {
-    let v = tables::coefficients(n, m, table, coefficients);
+    let v = differences::coefficients(n, m, table, coefficients);
     refusals::code(v)
 }
 
@@ -81,7 +81,7 @@ pub extern "C" fn vayudrit_evaluate(
         return refused;
     }
     let x = Point(point);
-    let e = tables::evaluate(n, m, coefficients, x);
+    let e = evaluation::evaluate(n, m, coefficients, x);
     put_value(e, value)
 }
 
@@ -158,7 +158,7 @@ pub extern "C" fn vayudrit_balanced(n: u64, point: u64, number: &mut [i64]) -> u
         return refused;
     }
     let x = Point(point);
-    let a = gray::to_balanced(n, x);
+    let a = balanced::to_balanced(n, x);
     put_balanced(a, number)
 }
 
@@ -173,6 +173,6 @@ pub extern "C" fn vayudrit_unbalanced(n: u64, number: i64, point: &mut [u64]) ->
     if refused != 0 {
         return refused;
     }
-    let a = gray::from_balanced(n, number);
+    let a = balanced::from_balanced(n, number);
     put_point(a, point)
 }

@@ -1,5 +1,5 @@
 // Answers of the operations into lent words: the result and 0, or the number of the refusal.
-use gray::BalancedAnswer;
+use balanced::BalancedAnswer;
 use gray::PlaceAnswer;
 use gray::PointAnswer;
 use refusals::Refusal;

@@ -7,8 +7,8 @@ use lib.ListN.{length, getD, set, drop, length-drop, length-set}
 use lib.Seq.{getD-drop, drop-set-add}
 use Rattle.trits.specs.declared.Vector.{Vector}
 use Rattle.trits.specs.Trit.{none}
-use Rattle.gray.specs.Positions.{lowestOf}
-use Rattle.gray.proofs.LowestLaw.{of-lt}
+use Rattle.positions.specs.Positions.{lowestOf}
+use Rattle.positions.proofs.LowestLaw.{of-lt}
 use Rattle.walks.specs.Walk.{iterate}
 use Rattle.walk.specs.Step.{State, walkOf}
 use Rattle.walk.specs.Parts.{whole, partOf}

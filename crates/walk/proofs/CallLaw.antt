@@ -15,7 +15,7 @@ use Rattle.trits.specs.Trit.{trit}
 use Rattle.trits.specs.Words.{isZero}
 use Rattle.trits.proofs.Bits.{and-left, and-right}
 use Rattle.trits.proofs.LegalLaw.{zero-iff}
-use Rattle.gray.specs.Positions.{positions}
+use Rattle.positions.specs.Positions.{positions}
 use Rattle.gray.specs.Numbers.{pointDigit, pointOf}
 use Rattle.polynomials.specs.Poly.{Poly, valueOf, eval}
 use Rattle.polynomials.proofs.FormLaw.{eval-value}

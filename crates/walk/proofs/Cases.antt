@@ -3,7 +3,7 @@ use mathlib.Core.Path.{_≡_, refl}
 use mathlib.Core.List.{List, [], _∷_}
 use Prim.Native.Nat.{ℕ}
 use Rattle.trits.specs.Words.{addOf}
-use Rattle.gray.specs.Positions.{lowestIn, lowestOf, positionsIn, positions}
+use Rattle.positions.specs.Positions.{lowestIn, lowestOf, positionsIn, positions}
 use Rattle.gray.specs.Numbers.{digit, number, pointDigit, pointOf}
 use Rattle.tables.specs.Monomials.{rowStart, indexOf}
 use Rattle.tables.specs.Words.{entry}

@@ -8,7 +8,7 @@ use lib.ListN.{length, getD, set, length-set}
 use lib.Seq.{getD-set-same, getD-set-other, set-set, set-comm}
 use Rattle.trits.specs.declared.Vector.{Vector}
 use Rattle.trits.specs.Words.{isZero}
-use Rattle.gray.specs.Positions.{positions}
+use Rattle.positions.specs.Positions.{positions}
 use Rattle.gray.specs.Numbers.{number, pointOf}
 use Rattle.gray.proofs.MapLaw.{point-lt, point-next-is}
 use Rattle.walks.specs.Walk.{stepOf, iterate}

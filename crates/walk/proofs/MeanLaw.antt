@@ -15,10 +15,10 @@ use Rattle.trits.specs.Trit.{trit, Legal, ofTrits, none}
 use Rattle.trits.specs.Words.{addOf}
 use Rattle.trits.proofs.SumLaw.{meets}
 use Rattle.trits.proofs.ExtLaw.{is-of, of-ext}
-use Rattle.gray.specs.Positions.{lowestOf, positions, latest}
+use Rattle.positions.specs.Positions.{lowestOf, positions, latest}
 use Rattle.gray.specs.Numbers.{pointDigit, pointOf}
-use Rattle.gray.proofs.LowestLaw.{of-times, of-lt}
-use Rattle.gray.proofs.PositionLaw.{positions-none, positions-one, positions-two}
+use Rattle.positions.proofs.LowestLaw.{of-times, of-lt}
+use Rattle.positions.proofs.PositionLaw.{positions-none, positions-one, positions-two}
 use Rattle.gray.proofs.LatestLaw.{moves, moves-rest}
 use Rattle.polynomials.specs.Poly.{Poly, valueOf, changeOf, eval, diff, tableOf}
 use Rattle.polynomials.proofs.FormLaw.{eval-value, diff-change}

@@ -10,11 +10,11 @@ use lib.Seq.{set-getD, getD-set-same}
 use Rattle.trits.specs.declared.Vector.{Vector}
 use Rattle.trits.specs.Trit.{none}
 use Rattle.trits.specs.Words.{addOf, isZero}
-use Rattle.gray.specs.Positions.{lowestIn, lowestOf, positions}
+use Rattle.positions.specs.Positions.{lowestIn, lowestOf, positions}
 use Rattle.gray.specs.Numbers.{pointOf}
 use Rattle.walks.specs.Walk.{Lawful, stepOf}
-use Rattle.gray.proofs.LowestLaw.{of-lt, of-second}
-use Rattle.gray.proofs.PositionLaw.{positions-none, positions-one, positions-two}
+use Rattle.positions.proofs.LowestLaw.{of-lt, of-second}
+use Rattle.positions.proofs.PositionLaw.{positions-none, positions-one, positions-two}
 use Rattle.walk.specs.Step.{State, push, lift, bump, moveOf, noteBy, walkBy, walkOf, foundOf, listOf}
 use Rattle.walk.specs.Parts.{headed}
 use Rattle.walk.specs.declared.moves.Moved.{Moved}

@@ -7,9 +7,9 @@ use native.Mathlib.Omega.{arith}
 use lib.ListN.{length, getD, set, drop}
 use Rattle.trits.specs.declared.Vector.{Vector}
 use Rattle.trits.specs.Trit.{none}
-use Rattle.gray.specs.Positions.{lowestOf, positions, reps}
-use Rattle.gray.proofs.LowestLaw.{of-times}
-use Rattle.gray.proofs.PositionLaw.{positions-next}
+use Rattle.positions.specs.Positions.{lowestOf, positions, reps}
+use Rattle.positions.proofs.LowestLaw.{of-times}
+use Rattle.positions.proofs.PositionLaw.{positions-next}
 use Rattle.walks.specs.Walk.{iterate, turns, block}
 use Rattle.walks.proofs.BlockLaw.{block-is}
 use Rattle.walk.specs.Step.{State, bump, moveOf, walkBy, walkOf}

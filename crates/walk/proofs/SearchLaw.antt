@@ -9,7 +9,7 @@ use lib.ListN.{length, length-set}
 use borrow.Author.Tests.{eq-eqb, ne-eqb}
 use Rattle.trits.specs.declared.Vector.{Vector}
 use Rattle.trits.specs.Words.{isZero}
-use Rattle.gray.specs.Positions.{positions}
+use Rattle.positions.specs.Positions.{positions}
 use Rattle.gray.specs.Numbers.{pointOf}
 use Rattle.walks.specs.Walk.{stepOf, iterate, runOf}
 use Rattle.walks.proofs.RunLaw.{run-none, run-halt, run-go, run-many, run-steps}

@@ -13,7 +13,7 @@ use Rattle.trits.specs.declared.Vector.{Vector}
 use Rattle.walks.specs.Walk.{stepOf, iterate}
 use Rattle.gray.specs.Numbers.{pointOf}
 use Rattle.walk.specs.Step.{State, walkOf}
-use Rattle.gray.specs.Positions.{lowestOf}
+use Rattle.positions.specs.Positions.{lowestOf}
 use Rattle.walk.specs.Run.{product, searchOf, Sized}
 use Rattle.walk.proofs.MoveLaw.{end-small, first-lt}
 use Rattle.walk.proofs.SearchLaw.{iterate-near, leap, ended, full, spent}

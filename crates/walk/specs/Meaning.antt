@@ -7,7 +7,7 @@ use lib.Dec.{eqb}
 use lib.ListN.{length, getD}
 use Rattle.trits.specs.declared.Vector.{Vector}
 use Rattle.trits.specs.Trit.{trit, Legal, none}
-use Rattle.gray.specs.Positions.{positions, latest}
+use Rattle.positions.specs.Positions.{positions, latest}
 use Rattle.gray.specs.Numbers.{pointDigit, pointOf}
 use Rattle.polynomials.specs.Poly.{Poly, valueOf, eval, diff, tableOf}
 use Rattle.walks.specs.Calls.{Trail, reportOf, stopAt, listAfter}

@@ -14,7 +14,7 @@ ghost use Prim.Native.Nat.{ℕ, _+_, _-_, _*_, _%_, _^_, _<_, _≤_};
 ghost use lib.ListN.{length, getD, set, drop};
 ghost use Rattle.trits.specs.declared.Vector.{Vector};
 ghost use Rattle.trits.specs.Trit.{none};
-ghost use Rattle.gray.specs.Positions.{lowestOf};
+ghost use Rattle.positions.specs.Positions.{lowestOf};
 ghost use Rattle.walks.specs.Walk.{iterate};
 ghost use Rattle.walk.specs.Step.{walkOf};
 ghost use Rattle.walk.specs.Parts.{whole, topOf, partOf};
@@ -178,7 +178,7 @@ pub(crate) fn blocks(
     let mut x = opened(r);
     let mut left = budget;
     while room(left, end, x.place, len, x.found) {
-        let f = gray::split(x.place / 27);
+        let f = positions::split(x.place / 27);
         let b = f.position + 3;
         let slot = slots[b];
         let t = block27(table, n, x, b, f.rest, slot, top, list);

@@ -6,7 +6,7 @@ ghost use Prim.Native.Nat.{_+_, _-_, _*_, _^_, _<_, _≤_};
 ghost use lib.ListN.{length, getD};
 ghost use Rattle.trits.specs.Trit.{none};
 ghost use Rattle.trits.specs.Words.{addOf, isZero};
-ghost use Rattle.gray.specs.Positions.{lowestOf, positions};
+ghost use Rattle.positions.specs.Positions.{lowestOf, positions};
 ghost use Rattle.gray.specs.Numbers.{pointOf};
 ghost use Rattle.walk.specs.Step.{State, moveOf, foundOf, listOf};
 ghost use Rattle.walk.specs.Parts.{headed, turnedIn};
@@ -134,7 +134,7 @@ pub(crate) fn head(
             additions: v.additions,
         };
     }
-    let f = gray::split(rest - 1);
+    let f = positions::split(rest - 1);
     let c = b + f.position;
     let t = tables::entry(table, n, b, c);
     let s = plus(slot, t, additions);

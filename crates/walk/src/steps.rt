@@ -39,7 +39,7 @@ pub(crate) fn steps(table: &[u64], n: usize, end: u64, r: Ran, budget: u64, list
     let mut found = r.found;
     let mut left = budget;
     while going(left, end, place, len, found) {
-        let f = gray::split(place);
+        let f = positions::split(place);
         let b = f.position;
         let slot = slots[b];
         let h = head(table, n, place, b, f.rest, slot, value, additions);

@@ -4,9 +4,9 @@ use mathlib.Core.List.{List, [], _∷_}
 use Prim.Native.Nat.{ℕ, zero, suc, _+_, _-_, _*_, _^_, _≤_, _<_}
 use native.Mathlib.Nat.{mul-one, mul-suc, pow-zero, pow-suc, one-le-pow, mul-le-mul-left}
 use native.Mathlib.Omega.{arith}
-use Rattle.gray.specs.Positions.{positions, reps}
+use Rattle.positions.specs.Positions.{positions, reps}
 use Rattle.walks.specs.Walk.{Walk, Lawful, stepOf, iterate, turns, block}
-use Rattle.gray.proofs.PositionLaw.{positions-reps}
+use Rattle.positions.proofs.PositionLaw.{positions-reps}
 
 module _ (q : ℕ) (two : 1 < q) {S : Type 0} (W : Walk S) (law : Lawful S W) where
   pub step-place : (s : S) → W .place (stepOf q W s) ≡ suc (W .place s)

@@ -9,9 +9,9 @@ use native.Mathlib.Omega.{arith}
 use lib.ListN.{length}
 use Rattle.residues.specs.Sums.{sum}
 use Rattle.residues.proofs.SumLaw.{sum-add, sum-ext}
-use Rattle.gray.specs.Positions.{lowestIn, lowestOf, positionsIn, positions, reps}
-use Rattle.gray.proofs.LowestLaw.{of-times, of-le, of-other}
-use Rattle.gray.proofs.PositionLaw.{positions-none, positions-next, positions-reps, positions-one, positions-two}
+use Rattle.positions.specs.Positions.{lowestIn, lowestOf, positionsIn, positions, reps}
+use Rattle.positions.proofs.LowestLaw.{of-times, of-le, of-other}
+use Rattle.positions.proofs.PositionLaw.{positions-none, positions-next, positions-reps, positions-one, positions-two}
 use Rattle.walks.specs.Calls.{Trail, costIn}
 use Rattle.walks.specs.Cost.{costOf, costAll}
 use Rattle.walks.proofs.CallLaw.{cost-add}

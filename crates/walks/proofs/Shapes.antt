@@ -2,7 +2,7 @@
 use mathlib.Core.Path.{_≡_, refl}
 use mathlib.Core.List.{List, [], _∷_}
 use Prim.Native.Nat.{ℕ}
-use Rattle.gray.specs.Positions.{reps}
+use Rattle.positions.specs.Positions.{reps}
 use Rattle.walks.specs.Walk.{Walk, turns, block}
 
 module _ {S : Type 0} (W : Walk S) (ps : List ℕ) (s : S) where

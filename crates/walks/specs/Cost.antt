@@ -1,7 +1,7 @@
 -- What a place costs in a walk, in additions.
 use Prim.Native.Nat.{ℕ, _^_, min}
 use lib.ListN.{length}
-use Rattle.gray.specs.Positions.{positions}
+use Rattle.positions.specs.Positions.{positions}
 use Rattle.residues.specs.Sums.{sum}
 
 -- the additions of place p in base q and degree d: one for each position of p, at most d

@@ -3,7 +3,7 @@ use mathlib.Core.Path.{_≡_}
 use mathlib.Core.Bool.{Bool, true, false}
 use mathlib.Core.List.{List, [], _∷_}
 use Prim.Native.Nat.{ℕ, zero, suc, _-_}
-use Rattle.gray.specs.Positions.{positions, reps}
+use Rattle.positions.specs.Positions.{positions, reps}
 
 pub record Walk (S : Type 0) : Type 0 where
   pub place : S → ℕ

@@ -9,7 +9,7 @@ use Rattle.search.proofs.open_checked.Statement.{statement}
 use Rattle.search.proofs.open_checked.Tie as tie
 use Rattle.search.proofs.open_checked.Reads as reads
 use Rattle.search.proofs.open_checked.Lts as lts
-use Rattle.gray.proofs.power.Reads as power-reads
+use Rattle.positions.proofs.power.Reads as power-reads
 use Rattle.search.proofs.opening.opened.Reads as opened-reads
 use Rattle.search.proofs.refused.Reads as refused-reads
 

@@ -5,7 +5,7 @@ use lib.IntN.{ℤ, pos, _-ℤ_}
 use mir.Syntax.{w64}
 use mir.Val.{SFits, toZ}
 use mir.ValLaws.{toZ-pos}
-use Rattle.gray.proofs.SignLaw.{minus-fits}
+use Rattle.balanced.proofs.SignLaw.{minus-fits}
 use borrow.Author.Needs.{needs}
 use Rattle.gray_run.proofs.plain.minus.Statement.{statement}
 use Rattle.gray_run.proofs.plain.minus.Tie as tie

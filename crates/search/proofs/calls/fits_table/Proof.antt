@@ -13,7 +13,7 @@ use Rattle.search.proofs.calls.fits_table.Statement.{statement}
 use Rattle.search.proofs.calls.fits_table.Tie as tie
 use Rattle.search.proofs.calls.fits_table.Reads as reads
 use Rattle.search.proofs.calls.fits_table.Lts as lts
-use Rattle.gray.proofs.power.Reads as power-reads
+use Rattle.positions.proofs.power.Reads as power-reads
 use Rattle.search.proofs.opening.opened.Reads as opened-reads
 use Rattle.search.proofs.records.same_record.Reads as same-record-reads
 

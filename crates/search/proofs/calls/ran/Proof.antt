@@ -10,7 +10,7 @@ use Rattle.search.proofs.calls.ran.Statement.{statement}
 use Rattle.search.proofs.calls.ran.Tie as tie
 use Rattle.search.proofs.calls.ran.Reads as reads
 use Rattle.search.proofs.calls.ran.Lts as lts
-use Rattle.gray.proofs.power.Reads as power-reads
+use Rattle.positions.proofs.power.Reads as power-reads
 use Rattle.search.proofs.calls.reported.Reads as reported-reads
 use Rattle.walk.proofs.run.Reads as run-reads
 

@@ -3,7 +3,7 @@ use mathlib.Core.Path.{_≡_, refl, sym, ap, ap₂, _∙_}
 use Prim.Native.Nat.{ℕ, _+_, _-_, _*_, _/_, _^_, _≤_, _<_}
 use native.Mathlib.Nat.{div-le-self}
 use native.Mathlib.Omega.{arith}
-use Rattle.gray.specs.Positions.{lastOf, latest}
+use Rattle.positions.specs.Positions.{lastOf, latest}
 use Rattle.search.proofs.PlaceLaw.{before-place, before-small, last-le}
 use borrow.Author.Needs.{needs}
 use Rattle.search.proofs.opening.before_move.Statement.{statement}

@@ -12,8 +12,8 @@ use Rattle.search.proofs.opening.fill.Lts as lts
 use Rattle.search.proofs.opening.digits.Reads as digits-reads
 use Rattle.search.proofs.opening.latest_place.Reads as latest-place-reads
 use Rattle.search.proofs.opening.slots.Reads as slots-reads
-use Rattle.tables.proofs.value_at.Reads as value-at-reads
-use Rattle.tables.proofs.coefficients.Reads as coefficients-reads
+use Rattle.evaluation.proofs.value_at.Reads as value-at-reads
+use Rattle.differences.proofs.coefficients.Reads as coefficients-reads
 
 -- src/opening.rt:128:9
 latest-place-requires : tie.Need-latest-place-requires

@@ -2,7 +2,7 @@
 use mathlib.Core.Path.{_≡_, refl, sym, ap, _∙_}
 use Prim.Native.Nat.{ℕ, _-_, _%_}
 use native.Mathlib.Omega.{arith}
-use Rattle.gray.specs.Positions.{lastOf}
+use Rattle.positions.specs.Positions.{lastOf}
 use Rattle.gray.proofs.LatestLaw.{last-zero, last-other}
 use Rattle.search.proofs.PlaceLaw.{two}
 use borrow.Author.Needs.{needs}

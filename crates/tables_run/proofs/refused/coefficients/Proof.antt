@@ -9,7 +9,7 @@ use Rattle.tables_run.proofs.refused.coefficients.Tie as tie
 use Rattle.tables_run.proofs.refused.coefficients.Reads as reads
 use Rattle.tables_run.proofs.refused.coefficients.Lts as lts
 use Rattle.refusals.proofs.code.Reads as code-reads
-use Rattle.tables.proofs.coefficients.Reads as coefficients-reads
+use Rattle.differences.proofs.coefficients.Reads as coefficients-reads
 
 returns : tie.Need-returns
 returns c = search needs

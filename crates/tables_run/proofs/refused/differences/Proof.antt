@@ -9,7 +9,7 @@ use Rattle.tables_run.proofs.refused.differences.Tie as tie
 use Rattle.tables_run.proofs.refused.differences.Reads as reads
 use Rattle.tables_run.proofs.refused.differences.Lts as lts
 use Rattle.refusals.proofs.code.Reads as code-reads
-use Rattle.tables.proofs.differences.Reads as differences-reads
+use Rattle.differences.proofs.differences.Reads as differences-reads
 
 returns : tie.Need-returns
 returns c = search needs

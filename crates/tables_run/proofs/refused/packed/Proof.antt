@@ -9,7 +9,7 @@ use Rattle.tables_run.proofs.refused.packed.Tie as tie
 use Rattle.tables_run.proofs.refused.packed.Reads as reads
 use Rattle.tables_run.proofs.refused.packed.Lts as lts
 use Rattle.refusals.proofs.code.Reads as code-reads
-use Rattle.tables.proofs.pack.Reads as pack-reads
+use Rattle.rows.proofs.pack.Reads as pack-reads
 
 returns : tie.Need-returns
 returns c = search needs

@@ -8,7 +8,7 @@ use Rattle.tables_run.proofs.refused.valued.Statement.{statement}
 use Rattle.tables_run.proofs.refused.valued.Tie as tie
 use Rattle.tables_run.proofs.refused.valued.Reads as reads
 use Rattle.tables_run.proofs.refused.valued.Lts as lts
-use Rattle.tables.proofs.evaluate.Reads as evaluate-reads
+use Rattle.evaluation.proofs.evaluate.Reads as evaluate-reads
 use Rattle.tables_run.proofs.refused.evaluated.Reads as evaluated-reads
 
 returns : tie.Need-returns

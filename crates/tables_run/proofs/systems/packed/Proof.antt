@@ -10,7 +10,7 @@ use Rattle.tables_run.proofs.systems.packed.Reads as reads
 use Rattle.tables_run.proofs.systems.packed.Lts as lts
 use Rattle.refusals.proofs.code.Reads as code-reads
 use Rattle.tables.proofs.check.Reads as check-reads
-use Rattle.tables.proofs.pack.Reads as pack-reads
+use Rattle.rows.proofs.pack.Reads as pack-reads
 
 returns : tie.Need-returns
 returns c = search needs

@@ -9,8 +9,8 @@ use Rattle.tables_run.proofs.systems.turned.Tie as tie
 use Rattle.tables_run.proofs.systems.turned.Reads as reads
 use Rattle.tables_run.proofs.systems.turned.Lts as lts
 use Rattle.refusals.proofs.code.Reads as code-reads
-use Rattle.tables.proofs.coefficients.Reads as coefficients-reads
-use Rattle.tables.proofs.differences.Reads as differences-reads
+use Rattle.differences.proofs.coefficients.Reads as coefficients-reads
+use Rattle.differences.proofs.differences.Reads as differences-reads
 
 returns : tie.Need-returns
 returns c = search needs

@@ -8,7 +8,7 @@ use Rattle.tables_run.proofs.systems.wrong_values.Statement.{statement}
 use Rattle.tables_run.proofs.systems.wrong_values.Tie as tie
 use Rattle.tables_run.proofs.systems.wrong_values.Reads as reads
 use Rattle.tables_run.proofs.systems.wrong_values.Lts as lts
-use Rattle.tables.proofs.evaluate.Reads as evaluate-reads
+use Rattle.evaluation.proofs.evaluate.Reads as evaluate-reads
 use Rattle.tables_run.proofs.plain.ahead.Reads as ahead-reads
 use Rattle.tables_run.proofs.plain.more.Reads as more-reads
 use Rattle.tables_run.proofs.plain.plain_value.Reads as plain-value-reads

@@ -2,9 +2,9 @@
 use mathlib.Core.Path.{sym, ap, _∙_}
 use mathlib.Core.List.{[], _∷_}
 use lib.ListN.{length}
-use Rattle.gray.specs.Balanced.{balancedOf}
+use Rattle.balanced.specs.Balanced.{balancedOf}
 use Rattle.gray.specs.Answers.{convertVerdict}
-use Rattle.gray.specs.declared.BalancedAnswer.{BalancedAnswer}
+use Rattle.balanced.specs.declared.BalancedAnswer.{BalancedAnswer}
 use Rattle.vayudrit.specs.Puts.{balancedNumber, balancedPut}
 use Rattle.vayudrit.specs.Operations.{single}
 use Rattle.vayudrit.proofs.VerdictLaw.{code-zero}
@@ -14,7 +14,7 @@ use Rattle.vayudrit.proofs.operations.vayudrit_balanced.Statement.{stat
 use Rattle.vayudrit.proofs.operations.vayudrit_balanced.Tie as tie
 use Rattle.vayudrit.proofs.operations.vayudrit_balanced.Reads as reads
 use Rattle.vayudrit.proofs.operations.vayudrit_balanced.Lts as lts
-use Rattle.gray.proofs.to_balanced.Reads as to-balanced-reads
+use Rattle.balanced.proofs.to_balanced.Reads as to-balanced-reads
 use Rattle.refusals.proofs.code.Reads as code-reads
 use Rattle.vayudrit.proofs.puts.put_balanced.Reads as put-balanced-reads
 use Rattle.vayudrit.proofs.puts.room_for_one.Reads as room-for-one-reads

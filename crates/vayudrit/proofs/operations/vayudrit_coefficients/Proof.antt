@@ -7,7 +7,7 @@ use Rattle.vayudrit.proofs.operations.vayudrit_coefficients.Tie as tie
 use Rattle.vayudrit.proofs.operations.vayudrit_coefficients.Reads as reads
 use Rattle.vayudrit.proofs.operations.vayudrit_coefficients.Lts as lts
 use Rattle.refusals.proofs.code.Reads as code-reads
-use Rattle.tables.proofs.coefficients.Reads as coefficients-reads
+use Rattle.differences.proofs.coefficients.Reads as coefficients-reads
 
 -- src/operations.rt:63:9
 coefficients-requires : tie.Need-coefficients-requires

@@ -7,7 +7,7 @@ use Rattle.vayudrit.proofs.operations.vayudrit_differences.Tie as tie
 use Rattle.vayudrit.proofs.operations.vayudrit_differences.Reads as reads
 use Rattle.vayudrit.proofs.operations.vayudrit_differences.Lts as lts
 use Rattle.refusals.proofs.code.Reads as code-reads
-use Rattle.tables.proofs.differences.Reads as differences-reads
+use Rattle.differences.proofs.differences.Reads as differences-reads
 
 -- src/operations.rt:48:9
 differences-requires : tie.Need-differences-requires

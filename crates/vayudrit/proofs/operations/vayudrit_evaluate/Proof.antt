@@ -14,7 +14,7 @@ use Rattle.vayudrit.proofs.operations.vayudrit_evaluate.Tie as tie
 use Rattle.vayudrit.proofs.operations.vayudrit_evaluate.Reads as reads
 use Rattle.vayudrit.proofs.operations.vayudrit_evaluate.Lts as lts
 use Rattle.refusals.proofs.code.Reads as code-reads
-use Rattle.tables.proofs.evaluate.Reads as evaluate-reads
+use Rattle.evaluation.proofs.evaluate.Reads as evaluate-reads
 use Rattle.vayudrit.proofs.puts.put_value.Reads as put-value-reads
 use Rattle.vayudrit.proofs.puts.room_for.Reads as room-for-reads
 

@@ -7,7 +7,7 @@ use Rattle.vayudrit.proofs.operations.vayudrit_pack.Tie as tie
 use Rattle.vayudrit.proofs.operations.vayudrit_pack.Reads as reads
 use Rattle.vayudrit.proofs.operations.vayudrit_pack.Lts as lts
 use Rattle.refusals.proofs.code.Reads as code-reads
-use Rattle.tables.proofs.pack.Reads as pack-reads
+use Rattle.rows.proofs.pack.Reads as pack-reads
 
 -- src/operations.rt:24:9
 pack-requires : tie.Need-pack-requires

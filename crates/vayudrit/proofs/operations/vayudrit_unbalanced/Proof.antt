@@ -5,8 +5,9 @@ use lib.IntN.{ℤ}
 use lib.ListN.{length}
 use mir.Syntax.{w64}
 use mir.ValLaws.{toZ-ofZ}
-use Rattle.gray.specs.Balanced.{unbalancedOf}
-use Rattle.gray.specs.Answers.{balancedVerdict, pointFrom}
+use Rattle.balanced.specs.Balanced.{unbalancedOf}
+use Rattle.balanced.specs.Answers.{balancedVerdict}
+use Rattle.gray.specs.Answers.{pointFrom}
 use Rattle.gray.specs.declared.PointAnswer.{PointAnswer}
 use Rattle.vayudrit.specs.Puts.{pointNumber, pointPut}
 use Rattle.vayudrit.specs.Operations.{single}
@@ -17,7 +18,7 @@ use Rattle.vayudrit.proofs.operations.vayudrit_unbalanced.Statement.{st
 use Rattle.vayudrit.proofs.operations.vayudrit_unbalanced.Tie as tie
 use Rattle.vayudrit.proofs.operations.vayudrit_unbalanced.Reads as reads
 use Rattle.vayudrit.proofs.operations.vayudrit_unbalanced.Lts as lts
-use Rattle.gray.proofs.from_balanced.Reads as from-balanced-reads
+use Rattle.balanced.proofs.from_balanced.Reads as from-balanced-reads
 use Rattle.refusals.proofs.code.Reads as code-reads
 use Rattle.vayudrit.proofs.puts.put_point.Reads as put-point-reads
 use Rattle.vayudrit.proofs.puts.room_for_one.Reads as room-for-one-reads

@@ -4,7 +4,7 @@ use mathlib.Core.List.{[], _∷_}
 use lib.IntN.{ℤ}
 use mir.Syntax.{w64}
 use mir.ValLaws.{toZ-ofZ}
-use Rattle.gray.specs.declared.BalancedAnswer.{BalancedAnswer}
+use Rattle.balanced.specs.declared.BalancedAnswer.{BalancedAnswer}
 use Rattle.vayudrit.specs.Puts.{balancedNumber, balancedPut}
 use Rattle.vayudrit.proofs.OperationLaw.{set-one}
 use borrow.Author.Needs.{needs}

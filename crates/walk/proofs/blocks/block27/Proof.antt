@@ -3,8 +3,8 @@ use mathlib.Core.Path.{refl, _∙_}
 use Prim.Native.Nat.{_-_, _≤_, _<_}
 use native.Mathlib.Omega.{arith}
 use lib.ListN.{set}
-use Rattle.gray.specs.Positions.{lowestOf}
-use Rattle.gray.proofs.LowestLaw.{of-lt}
+use Rattle.positions.specs.Positions.{lowestOf}
+use Rattle.positions.proofs.LowestLaw.{of-lt}
 use Rattle.walk.specs.Parts.{whole}
 use Rattle.walk.specs.Run.{product}
 use Rattle.walk.proofs.MoveLaw.{two, end-small}

@@ -11,7 +11,7 @@ use Rattle.walk.proofs.blocks.blocks.Statement.{statement}
 use Rattle.walk.proofs.blocks.blocks.Tie as tie
 use Rattle.walk.proofs.blocks.blocks.Reads as reads
 use Rattle.walk.proofs.blocks.blocks.Lts as lts
-use Rattle.gray.proofs.split.Reads as split-reads
+use Rattle.positions.proofs.split.Reads as split-reads
 use Rattle.walk.proofs.blocks.block27.Reads as block27-reads
 use Rattle.walk.proofs.blocks.closed.Reads as closed-reads
 use Rattle.walk.proofs.blocks.opened.Reads as opened-reads

@@ -3,8 +3,8 @@ use mathlib.Core.Path.{_≡_, sym, ap, _∙_}
 use Prim.Native.Nat.{ℕ, _+_, _-_, _*_, _^_, _<_}
 use native.Mathlib.Nat.{mul-zero}
 use native.Mathlib.Omega.{arith}
-use Rattle.gray.specs.Positions.{lowestOf}
-use Rattle.gray.proofs.LowestLaw.{of-lt}
+use Rattle.positions.specs.Positions.{lowestOf}
+use Rattle.positions.proofs.LowestLaw.{of-lt}
 use Rattle.walk.specs.Run.{product}
 use Rattle.walk.proofs.MoveLaw.{two, head-none, head-one, head-two, second, alone, above}
 use borrow.Author.Needs.{needs}
@@ -12,7 +12,7 @@ use Rattle.walk.proofs.moves.head.Statement.{statement}
 use Rattle.walk.proofs.moves.head.Tie as tie
 use Rattle.walk.proofs.moves.head.Reads as reads
 use Rattle.walk.proofs.moves.head.Lts as lts
-use Rattle.gray.proofs.split.Reads as split-reads
+use Rattle.positions.proofs.split.Reads as split-reads
 use Rattle.tables.proofs.entry.Reads as entry-reads
 use Rattle.walk.proofs.moves.plus.Reads as plus-reads
 

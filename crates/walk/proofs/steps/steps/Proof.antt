@@ -12,7 +12,7 @@ use Rattle.walk.proofs.steps.steps.Statement.{statement}
 use Rattle.walk.proofs.steps.steps.Tie as tie
 use Rattle.walk.proofs.steps.steps.Reads as reads
 use Rattle.walk.proofs.steps.steps.Lts as lts
-use Rattle.gray.proofs.split.Reads as split-reads
+use Rattle.positions.proofs.split.Reads as split-reads
 use Rattle.walk.proofs.moves.head.Reads as head-reads
 use Rattle.walk.proofs.moves.mark.Reads as mark-reads
 use Rattle.walk.proofs.steps.going.Reads as going-reads

@@ -1,0 +1,2 @@
+pub mod Balanced
+pub mod Answers

@@ -1,0 +1,2 @@
+pub mod FillLaw
+pub mod TurnLaw

@@ -1,0 +1,2 @@
+pub mod AnswerLaw
+pub mod PackLaw
