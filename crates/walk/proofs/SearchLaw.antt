@@ -12,7 +12,8 @@ use Rattle.trits.specs.Words.{isZero}
 use Rattle.positions.specs.Positions.{positions}
 use Rattle.gray.specs.Numbers.{pointOf}
 use Rattle.walks.specs.Walk.{stepOf, iterate, runOf}
-use Rattle.walks.proofs.RunLaw.{run-none, run-halt, run-go, run-many, run-steps}
+use Rattle.walks.proofs.FollowLaw.{Counts}
+use Rattle.walks.proofs.SearchLaw as law
 use Rattle.walk.specs.Step.{State, push, lift, bump, moveOf, noteBy, walkBy, walkOf, foundOf, listOf}
 use Rattle.walk.specs.Run.{haltOf}
 
@@ -78,63 +79,13 @@ module _ (f : ℕ → ℕ) (T : ℕ → ℕ → Vector) where
         list = r .list ∙ m .list;
       }
 
+-- the walk as one that keeps counts, with at most two additions at a place
+abbrev pub counts : Counts State
+counts = record { additions = λ s. s .additions; found = λ s. s .found; list = λ s. s .list }
+
 module _ (n : ℕ) (T : ℕ → ℕ → Vector) where
-  -- ---- when a run halts, and when it goes on
-  pub goes : (e : ℕ) (s : State) → (s .place ≡ e → ⊥) → (s .found ≡ length (s .list) → ⊥) → haltOf e s ≡ false
-  goes e s f g = rw (ne-eqb _ _ f, ne-eqb _ _ g)
-
-  pub ended : (e k : ℕ) (s : State) → s .place ≡ e → runOf 3 (walkOf n T) (haltOf e) k s ≡ s
-  ended e k s h = run-halt 3 (walkOf n T) (haltOf e) k s (rw (eq-eqb _ _ h))
-
-  pub full : (e k : ℕ) (s : State) → s .found ≡ length (s .list) → runOf 3 (walkOf n T) (haltOf e) k s ≡ s
-  full e k s h = run-halt 3 (walkOf n T) (haltOf e) k s (rw (eq-eqb _ _ h) (either (eqb (s .place) e)))
-    where
-      either : (b : Bool) → (b || true) ≡ true
-      either true = refl
-      either false = refl
-
-  pub spent : (e k : ℕ) (s : State) → k ≡ 0 → runOf 3 (walkOf n T) (haltOf e) k s ≡ s
-  spent e k s h = rw h (run-none 3 (walkOf n T) (haltOf e) s)
-
-  -- k places at once, where there is room for them
-  pub leap : (e k j : ℕ) (s : State) → k ≤ j → s .place + k ≤ e → s .found + k ≤ length (s .list)
-      → runOf 3 (walkOf n T) (haltOf e) j s ≡ runOf 3 (walkOf n T) (haltOf e) (j - k) (iterate 3 (walkOf n T) k s)
-  leap e k j s h p l =
-      run-many 3 (walkOf n T) (haltOf e) k j s h
-      (λ i hi.
-      let m = iterate-near (pointOf 3 n) T i s in
-      goes e (iterate 3 (walkOf n T) i s) (λ z. omega (arith, m .place)) (λ z. omega (arith, m .found, m .list)))
-
-  -- a run goes no place back, and no more than it may
-  pub run-place : (e j : ℕ) (s : State)
-      → (s .place ≤ (runOf 3 (walkOf n T) (haltOf e) j s) .place) × ((runOf 3 (walkOf n T) (haltOf e) j s) .place ≤ s .place + j)
-  run-place e j s =
-      let r = run-steps 3 (walkOf n T) (haltOf e) j s in
-      let m = iterate-near (pointOf 3 n) T (r .count) s in
-      rw (r .same) (omega (arith, m .place, r .most), omega (arith, m .place, r .most))
-
-  stay : (e k : ℕ) (s r : State) → r ≡ s → runOf 3 (walkOf n T) (haltOf e) (k - (r .place - s .place)) r ≡ runOf 3 (walkOf n T) (haltOf e) k s
-  stay e k s r h = rw h (ap (λ (j : ℕ). runOf 3 (walkOf n T) (haltOf e) j s) (omega arith))
-
-  -- a run of j places, and then of what is left of k, is a run of k
-  pub resume : (e j k : ℕ) (s : State) → j ≤ k
-      → runOf 3 (walkOf n T) (haltOf e) (k - ((runOf 3 (walkOf n T) (haltOf e) j s) .place - s .place)) (runOf 3 (walkOf n T) (haltOf e) j s)
-      ≡ runOf 3 (walkOf n T) (haltOf e) k s
-  resume e zero k s h = stay e k s _ (run-none 3 (walkOf n T) (haltOf e) s)
-  resume e (suc j) zero s h = absurd (omega arith)
-  resume e (suc j) (suc k) s h = more (haltOf e s) refl (resume e j k (stepOf 3 (walkOf n T) s) (omega arith))
-    where
-      more : (b : Bool) → haltOf e s ≡ b
-          → (runOf 3 (walkOf n T) (haltOf e) (k - ((runOf 3 (walkOf n T) (haltOf e) j (stepOf 3 (walkOf n T) s)) .place - (stepOf 3 (walkOf n T) s) .place)) (runOf 3 (walkOf n T) (haltOf e) j (stepOf 3 (walkOf n T) s))
-          ≡ runOf 3 (walkOf n T) (haltOf e) k (stepOf 3 (walkOf n T) s))
-          → runOf 3 (walkOf n T) (haltOf e) (suc k - ((runOf 3 (walkOf n T) (haltOf e) (suc j) s) .place - s .place)) (runOf 3 (walkOf n T) (haltOf e) (suc j) s)
-          ≡ runOf 3 (walkOf n T) (haltOf e) (suc k) s
-      more true b ih = stay e (suc k) s _ (run-halt 3 (walkOf n T) (haltOf e) (suc j) s b)
-      more false b ih =
-          let w = step-near (pointOf 3 n) T s in
-          let p = run-place e j (stepOf 3 (walkOf n T) s) in
-          rw (run-go 3 (walkOf n T) (haltOf e) j s b, run-go 3 (walkOf n T) (haltOf e) k s b)
-          (ap (λ (x : ℕ). runOf 3 (walkOf n T) (haltOf e) x (runOf 3 (walkOf n T) (haltOf e) j (stepOf 3 (walkOf n T) s))) (omega (arith, w .place, p)) ∙ ih)
+  pub near : (s : State) → law.Near 3 (walkOf n T) counts 2 s (stepOf 3 (walkOf n T) s) 1
+  near s = let m = step-near (pointOf 3 n) T s in record { place = m .place; found = m .found; additions = m .additions; list = m .list }
 
   -- places one by one to a, blocks to b, places one by one to r: a search
   pub joined : (e budget first : ℕ) (s a b r : State) → first ≤ budget → s .place ≤ a .place → a .place ≤ b .place
@@ -145,4 +96,4 @@ module _ (n : ℕ) (T : ℕ → ℕ → Vector) where
   joined e budget first s a b r h i j p q o =
       let k : budget - (b .place - s .place) ≡ budget - (a .place - s .place) - (b .place - a .place) = omega arith in
       o ∙ ap (λ (x : ℕ). runOf 3 (walkOf n T) (haltOf e) x b) k ∙ q
-      ∙ ap (λ (x : State). runOf 3 (walkOf n T) (haltOf e) (budget - (x .place - s .place)) x) p ∙ resume e first budget s h
+      ∙ ap (λ (x : State). runOf 3 (walkOf n T) (haltOf e) (budget - (x .place - s .place)) x) p ∙ law.resume 3 (walkOf n T) counts 2 near e first budget s h

@@ -10,13 +10,14 @@ use lib.Dec.{eqb}
 use lib.ListN.{length}
 use borrow.Author.Tests.{eq-eqb, ne-eqb}
 use Rattle.trits.specs.declared.Vector.{Vector}
-use Rattle.walks.specs.Walk.{stepOf, iterate}
+use Rattle.walks.specs.Walk.{Walk, stepOf, iterate}
 use Rattle.gray.specs.Numbers.{pointOf}
 use Rattle.walk.specs.Step.{State, walkOf}
 use Rattle.positions.specs.Positions.{lowestOf}
 use Rattle.walk.specs.Run.{product, searchOf, Sized}
 use Rattle.walk.proofs.MoveLaw.{end-small, first-lt}
-use Rattle.walk.proofs.SearchLaw.{iterate-near, leap, ended, full, spent}
+use Rattle.walk.proofs.SearchLaw.{iterate-near, counts, near}
+use Rattle.walks.proofs.WalkedLaw as law
 
 -- a state from what the code holds of it
 abbrev pub held : ℕ → Vector → List Vector → ℕ → ℕ → List ℕ → State
@@ -34,43 +35,42 @@ pub record Walked (t : List ℕ) (n e budget left : ℕ) (s₀ s : State) : Type
   pub state : searchOf t n e left s ≡ searchOf t n e budget s₀
 
 module _ (t : List ℕ) (n e : ℕ) where
+  abbrev W : Walk State
+  W = walkOf n (product t n)
+
+  -- the law of any walk that keeps counts, and back
+  any : {budget left : ℕ} {s₀ s : State} → Walked t n e budget left s₀ s → law.Walked 3 W counts 2 e budget left s₀ s
+  any w =
+      record {
+        sound = record { place = w .place; found = w .found; additions = w .additions };
+        list = w .list;
+        went = w .went;
+        less = w .less;
+        state = w .state;
+      }
+
+  this : {budget left : ℕ} {s₀ s : State} → length (s .slots) ≡ 20 → law.Walked 3 W counts 2 e budget left s₀ s → Walked t n e budget left s₀ s
+  this k w =
+      record {
+        size = k;
+        place = w .sound .place;
+        found = w .sound .found;
+        additions = w .sound .additions;
+        list = w .list;
+        went = w .went;
+        less = w .less;
+        state = w .state;
+      }
+
   pub walked-none : (k : ℕ) (s : State) → length (s .slots) ≡ 20 → s .place ≤ e → s .found ≤ length (s .list) → s .additions ≤ 2 * s .place → Walked t n e k k s s
-  walked-none k s a b c d = record { size = a; place = b; found = c; additions = d; list = refl; went = refl; less = omega arith; state = refl }
+  walked-none k s a b c d = this a (law.walked-none 3 W counts 2 e k s record { place = b; found = c; additions = d })
 
   -- k places more, where there is room for them
   pub walked-more : (k budget left : ℕ) (s₀ s r : State) → Walked t n e budget left s₀ s → k ≤ left → s .place + k ≤ e → s .found + k ≤ length (s .list)
       → r ≡ iterate 3 (walkOf n (product t n)) k s → Walked t n e budget (left - k) s₀ r
   walked-more k budget left s₀ s r w h p l i =
       let m = iterate-near (pointOf 3 n) (product t n) k s in
-      let u = iterate 3 (walkOf n (product t n)) k s in
-      let v : Walked t n e budget (left - k) s₀ u =
-      record {
-        size = m .slots ∙ w .size;
-        place = omega (arith, m .place);
-        found = omega (arith, m .found, m .list);
-        additions = omega (arith, m .additions, m .place, w .additions);
-        list = m .list ∙ w .list;
-        went = omega (arith, m .place, w .went);
-        less = omega (arith, w .less);
-        state = sym (leap n (product t n) e k left s h p l) ∙ w .state;
-      } in
-      rw i v
-
-  -- the test that ends the loop over single places
-  pub going-true : (k : ℕ) (s : State) → (not (eqb k 0) && not (eqb (s .place) e) && not (eqb (s .found) (length (s .list)))) ≡ true
-      → (0 < k) × (s .place ≡ e → ⊥) × (s .found ≡ length (s .list) → ⊥)
-  going-true k s h =
-      by-cases (ℕ-discrete k 0) (λ a. absurd (true≢false (sym h ∙ rw (eq-eqb _ _ a))))
-      (λ a. by-cases (ℕ-discrete (s .place) e) (λ b. absurd (true≢false (sym h ∙ rw (ne-eqb _ _ a, eq-eqb _ _ b))))
-      (λ b. by-cases (ℕ-discrete (s .found) (length (s .list))) (λ d. absurd (true≢false (sym h ∙ rw (ne-eqb _ _ a, ne-eqb _ _ b, eq-eqb _ _ d))))
-      (λ d. (omega arith, b, d))))
-
-  pub going-false : (k : ℕ) (s : State) → (not (eqb k 0) && not (eqb (s .place) e) && not (eqb (s .found) (length (s .list)))) ≡ false → searchOf t n e k s ≡ s
-  going-false k s h =
-      by-cases (ℕ-discrete k 0) (λ a. spent n (product t n) e k s a)
-      (λ a. by-cases (ℕ-discrete (s .place) e) (λ b. ended n (product t n) e k s b)
-      (λ b. by-cases (ℕ-discrete (s .found) (length (s .list))) (λ d. full n (product t n) e k s d)
-      (λ d. absurd (true≢false (rw (ne-eqb _ _ a, ne-eqb _ _ b, ne-eqb _ _ d) at h)))))
+      this (ap (λ (x : State). length (x .slots)) i ∙ m .slots ∙ w .size) (law.walked-more 3 W counts 2 (near n (product t n)) e k budget left s₀ s r (any w) h p l i)
 
   -- what a turn of that loop may count on
   pub record Goes (k : ℕ) (s : State) : Type 0 where
@@ -84,14 +84,13 @@ module _ (t : List ℕ) (n e : ℕ) where
   pub goes-on : (budget left k : ℕ) (s₀ s : State) (b : Bool) → Sized t n e → Walked t n e budget left s₀ s → k ≡ length (s₀ .list)
       → b ≡ (not (eqb left 0) && not (eqb (s .place) e) && not (eqb (s .found) k)) → b ≡ true → Goes left s
   goes-on budget left k s₀ s b z w h g i =
-      let f : length (s .list) ≡ k = w .list ∙ sym h in
-      let y = going-true left s (ap (λ (x : ℕ). not (eqb left 0) && not (eqb (s .place) e) && not (eqb (s .found) x)) f ∙ sym g ∙ i) in
+      let y = law.goes-on 3 W counts 2 e budget left k s₀ s b (any w) h g i in
       let u = end-small n (z .small) in
-      let p : s .place < e = omega (arith, y, w .place) in
+      let p = y .place in
       record {
-        left = y .0;
+        left = y .left;
         place = p;
-        found = omega (arith, y, w .found);
+        found = y .found;
         low = first-lt n (s .place) (z .some) (omega (arith, z .end));
         count = omega (arith, w .additions, z .end);
         end = omega (arith, z .end);
@@ -100,9 +99,7 @@ module _ (t : List ℕ) (n e : ℕ) where
   -- the end of that loop
   pub goes-no-more : (budget left k : ℕ) (s₀ s : State) (b : Bool) → Walked t n e budget left s₀ s → k ≡ length (s₀ .list)
       → b ≡ (not (eqb left 0) && not (eqb (s .place) e) && not (eqb (s .found) k)) → b ≡ false → s ≡ searchOf t n e budget s₀
-  goes-no-more budget left k s₀ s b w h g i =
-      let f : length (s .list) ≡ k = w .list ∙ sym h in
-      sym (going-false left s (ap (λ (x : ℕ). not (eqb left 0) && not (eqb (s .place) e) && not (eqb (s .found) x)) f ∙ sym g ∙ i)) ∙ w .state
+  goes-no-more budget left k s₀ s b w h g i = law.goes-no-more 3 W counts 2 e budget left k s₀ s b (any w) h g i
 
   -- one place more
   pub walked-one : (budget left : ℕ) (s₀ s r : State) → Walked t n e budget left s₀ s → Goes left s

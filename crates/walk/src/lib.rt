@@ -10,6 +10,9 @@ mod moves;
 mod parts;
 mod steps;
 
+pub use moves::mark;
+pub use moves::points;
+
 // Where a walk stands: the next place to examine, the value at the place before it, and the slot of each unknown.
 pub struct Walker {
     pub place: u64,

@@ -38,7 +38,7 @@ pub(crate) fn plus(a: Vector, b: Vector, additions: u64) -> Sum
 }
 
 // How many are found after a value at a place; the point of a zero is written at the first free entry of list.
-pub(crate) fn mark(n: usize, value: Vector, place: u64, found: usize, list: &mut [u64]) -> usize
+pub fn mark(n: usize, value: Vector, place: u64, found: usize, list: &mut [u64]) -> usize
     requires { ⌜ (n ≤ 20) × (found < length (now list)) ⌝ }
     ensures count { λ r. ⌜ r ≡ foundOf (isZero value) found ⌝ }
     ensures list { λ _. ⌜ now (list .exit) ≡ listOf (isZero value) (pointOf 3 n place) found (now (list .entry)) ⌝ }
@@ -83,7 +83,7 @@ fn point_near(n: usize, place: u64, top: u64, high: u64) -> u64
 }
 
 // The places listed in entries from `from` to before `to`, likely of the block of the given place, become their points.
-pub(crate) fn points(n: usize, list: &mut [u64], place: u64, from: usize, to: usize)
+pub fn points(n: usize, list: &mut [u64], place: u64, from: usize, to: usize)
     requires { ⌜ (3 ≤ n) × (n ≤ 20) × (to ≤ length (now list)) ⌝ }
     ensures { λ _. ⌜ now (list .exit) ≡ turnedIn (pointOf 3 n) from (to - from) (now (list .entry)) ⌝ }
 {

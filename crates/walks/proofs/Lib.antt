@@ -7,3 +7,5 @@ pub mod ZeroLaw
 pub mod CostLaw
 pub mod HaltLaw
 pub mod FollowLaw
+pub mod SearchLaw
+pub mod WalkedLaw
