@@ -1,7 +1,10 @@
 -- The value of a cubic as the code sums it: the products of each pair, the pairs of each unknown, the unknowns.
 use mathlib.Core.Path.{_≡_, refl, sym, ap, ap₂, _∙_}
+use mathlib.Core.Logic.{by-cases}
 use mathlib.Core.List.{List}
-use Prim.Native.Nat.{ℕ, zero, suc, _+_, _-_, _*_, _%_, _≤_, _<_}
+use Prim.Native.Nat.{ℕ, zero, suc, _+_, _-_, _*_, _%_, _^_, _≤_, _<_}
+use native.Mathlib.Numerals.{add-one}
+use native.Mathlib.Decide.{ℕ-discrete}
 use native.Mathlib.Omega.{arith}
 use lib.ListN.{length, getD}
 use Rattle.residues.specs.Sums.{sum}
@@ -20,7 +23,7 @@ use Rattle.evaluation.proofs.EvaluateLaw.{rowsPart, rows-whole}
 use Rattle.cubics.specs.Cubic.{Cubic, lowOf, cubesOf, cubicOf}
 use Rattle.cubics.proofs.CubicLaw.{ext-cubic}
 use Rattle.listed.specs.Lists.{Lists, Rising}
-use Rattle.listed.proofs.ListLaw.{sum-listed}
+use Rattle.listed.proofs.ListLaw.{sum-still, sum-listed}
 use Rattle.cubic_tables.specs.Order.{cubicCount, tripleIndex, keyOf}
 use Rattle.cubic_tables.specs.Words.{CubicTable, cubicAt}
 use Rattle.cubic_tables.proofs.OrderLaw.{pair-is, index-base, triple-lt, cubic-count-low}
@@ -54,11 +57,7 @@ base-at n i j k b p h l m o e f =
 pub pair-number : (n j r : ℕ) → r ≡ indexOf n j j → r - n - 1 ≡ rowStart n j
 pair-number n j r e = omega (arith, pair-is n j j)
 
--- ---- nothing is summed before the first unknown of a cell: its own place holds none if the pair is i, i
-pub cell-begun : (f : ℕ → Cubic) (x : ℕ → ℕ) (i j : ℕ) → i ≡ j → (e : ℕ) → sum (i - j) (λ d. f e .cube i j (j + d) * x (j + d)) ≡ 0
-unfolding sum
-cell-begun f x i j h e = let z : i - j ≡ 0 = omega arith in ap (λ (k : ℕ). sum k (λ d. f e .cube i j (j + d) * x (j + d))) z
-
+-- ---- nothing is summed before the first unknown of a cell: of i, i, i there is none
 pub none-begun : (a : ℕ) (H : ℕ → ℕ) → sum (a - a) H ≡ 0
 unfolding sum
 none-begun a H = let z : a - a ≡ 0 = omega arith in ap (λ (k : ℕ). sum k H) z
@@ -143,3 +142,71 @@ module _ (f : Cubic) (n : ℕ) (x : ℕ → ℕ) where
 -- the value at digits is that at their remainders
 pub value-mod : (n m : ℕ) (F : ℕ → Cubic) (x : ℕ → ℕ) (v : Vector) → Holds m (λ e. cubicOf (F e) n (λ k. x k % 3)) v → v ≡ ofTrits m (λ e. cubicOf (F e) n x)
 value-mod n m F x v h = holds-is (holds-ext (λ e l. ext-cubic 3 (omega arith) (F e) n (λ k. x k % 3) x (λ k. cdrop (x k)) .same) h)
+
+-- ---- what the code asks
+pub pair-order : (n : ℕ) (at : List ℕ) (c s t : ℕ) → Rising n at c → s ≤ t → t < c → (getD at s 0 ≤ getD at t 0) × (getD at t 0 < n)
+pair-order n at c s t r l m =
+    by-cases (ℕ-discrete s t)
+    (λ (e : s ≡ t). let k : getD at s 0 ≡ getD at t 0 = ap (λ (y : ℕ). getD at y 0) e in (omega arith, r .below t m))
+    (λ e. let k = r .rise s t (omega arith) m in (omega arith, r .below t m))
+
+-- the unknowns after number t of the list come after i, number s: from t on where s is before it, from t + 1 on where they are the same
+pub later-same : (n : ℕ) (at : List ℕ) (c s t : ℕ) → Rising n at c → s ≡ t → (u : ℕ) → t + 1 ≤ u → u < c → (getD at t 0 ≤ getD at u 0) × (getD at s 0 < getD at u 0)
+later-same n at c s t r e u l m =
+    let k : getD at s 0 ≡ getD at t 0 = ap (λ (y : ℕ). getD at y 0) e in
+    let j = r .rise t u (omega arith) m in
+    (omega arith, omega arith)
+
+pub later-apart : (n : ℕ) (at : List ℕ) (c s t : ℕ) → Rising n at c → s ≤ t → (s ≡ t → ⊥) → (u : ℕ) → t ≤ u → u < c → (getD at t 0 ≤ getD at u 0) × (getD at s 0 < getD at u 0)
+later-apart n at c s t r l d u o m =
+    let j = r .rise s u (omega arith) m in
+    let k = pair-order n at c t u r o m in
+    (k .0, j)
+
+-- where the products of a cell stand: b from the key of i and the number p of j, j
+pub cell-room : (n len b p i j c from : ℕ) (at : List ℕ) → Rising n at c → n ≤ 20 → i ≤ j → p ≡ rowStart n j → b ≡ keyOf n i + (p - j) → len ≡ 2 * cubicCount n
+    → ((u : ℕ) → from ≤ u → u < c → (j ≤ getD at u 0) × (i < getD at u 0)) → (u : ℕ) → from ≤ u → u < c → (getD at u 0 < 2 ^ 32) × (2 * (b + getD at u 0) + 1 < len)
+cell-room n len b p i j c from at r small h e f g later u l m =
+    let w = later u l m in
+    let k = r .below u m in
+    let a = base-at n i j (getD at u 0) b p h (w .0) (w .1) k e f in
+    let o = triple-lt n i j (getD at u 0) h (w .0) (w .1) k in
+    (omega arith, omega arith)
+
+pub cell-entry : (n m : ℕ) (tb : List ℕ) → CubicTable n m tb → (i j k b p : ℕ) → i ≤ j → j ≤ k → i < k → k < n → p ≡ rowStart n j → b ≡ keyOf n i + (p - j)
+    → Holds m (λ e. cubicAt n tb e .cube i j k) (entry tb (b + k))
+cell-entry n m tb w i j k b p h l o q e f = rw (base-at n i j k b p h l o q e f) (cube-holds n m tb w i j k h l o q)
+
+pub cell-square : (n : ℕ) (x : ℕ → ℕ) (at turn : List ℕ) (c s t : ℕ) (tb : List ℕ) → Lists n x at turn c → s ≡ t → t < c → (e : ℕ)
+    → sum (getD at (t + 1) 0 - getD at t 0) (λ d. cubicAt n tb e .cube (getD at s 0) (getD at t 0) (getD at t 0 + d) * x (getD at t 0 + d)) ≡ 0
+cell-square n x at turn c s t tb g h l e =
+    ap (λ (k : ℕ). sum (getD at (t + 1) 0 - getD at t 0) (λ d. cubicAt n tb e .cube (getD at k 0) (getD at t 0) (getD at t 0 + d) * x (getD at t 0 + d))) h
+    ∙ square-begun n x at turn c g t l (cubicAt n tb e) (cube-none n tb e (getD at t 0))
+
+pub next-le : (n : ℕ) (x : ℕ → ℕ) (at turn : List ℕ) (c t : ℕ) → Lists n x at turn c → t < c → getD at t 0 ≤ getD at (t + 1) 0
+next-le n x at turn c t g l = let s = g .step t l in let e : getD at (t + 1) 0 ≡ getD at (suc t) 0 = ap (λ (y : ℕ). getD at y 0) (add-one t) in omega arith
+
+pub cell-sum : (m n i j : ℕ) (F : ℕ → Cubic) (x : ℕ → ℕ) (v : Vector) → Holds m (λ e. F e .quad i j + sum (n - j) (λ d. F e .cube i j (j + d) * x (j + d))) v
+    → Holds m (λ e. cellSum (F e) n i j x) v
+unfolding cellSum
+cell-sum m n i j F x v h = h
+
+pub plane-sum : (m n i : ℕ) (F : ℕ → Cubic) (x : ℕ → ℕ) (v : Vector) → Holds m (λ e. F e .lin i + sum (n - i) (λ d. cellSum (F e) n i (i + d) x * x (i + d))) v
+    → Holds m (λ e. planeSum (F e) n i x) v
+unfolding planeSum
+plane-sum m n i F x v h = h
+
+pub whole-sum : (m n : ℕ) (F : ℕ → Cubic) (x : ℕ → ℕ) (v : Vector) → Holds m (λ e. F e .const + sum (n - 0) (λ d. planeSum (F e) n (0 + d) x * x (0 + d))) v
+    → Holds m (λ e. cubicOf (F e) n x) v
+whole-sum m n F x v h = holds-ext (λ e l. ap (λ (y : ℕ). y % 3) (value-whole (F e) n x)) h
+
+-- the unknowns before the first listed one are 0
+pub first-begun : (n : ℕ) (x : ℕ → ℕ) (at turn : List ℕ) (c : ℕ) → Lists n x at turn c → (h : ℕ → ℕ) → sum (getD at 0 0 - 0) (λ d. h (0 + d) * x (0 + d)) ≡ 0
+unfolding sum
+first-begun n x at turn c g h =
+    let z : getD at 0 0 - 0 ≡ 0 + getD at 0 0 = omega arith in
+    ap (λ (k : ℕ). sum k (λ d. h (0 + d) * x (0 + d))) z
+    ∙ sum-still 0 (getD at 0 0) (λ d. h (0 + d) * x (0 + d)) (λ d l o. ap (λ (y : ℕ). h (0 + d) * y) (g .first (0 + d) (omega arith)) ∙ nought (h (0 + d)))
+  where
+    nought : (y : ℕ) → y * 0 ≡ 0
+    nought y = omega arith
