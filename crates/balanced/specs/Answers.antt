@@ -1,4 +1,5 @@
 -- What the conversions of balanced numbers answer, in document 01's numbers and values.
+use mathlib.Core.List.{List, [], _∷_}
 use Prim.Native.Nat.{ℕ}
 use lib.IntN.{ℤ, pos, negℤ}
 use lib.Signed.{ltZ}
@@ -19,7 +20,7 @@ abbrev pub balancedFrom : Verdict → ℤ → BalancedAnswer
 balancedFrom verdict.Done y = balanced.At y
 balancedFrom (verdict.Refused r) y = balanced.Refused r
 
--- document 01's number and value of each answer
-abbrev pub balancedTold : BalancedAnswer → ℕ × ℤ
-balancedTold (balanced.At y) = (0, y)
-balancedTold (balanced.Refused r) = (numberOf r, pos 0)
+-- document 01's number and values of each answer
+abbrev pub balancedTold : BalancedAnswer → ℕ × List ℤ
+balancedTold (balanced.At y) = (0, y ∷ [])
+balancedTold (balanced.Refused r) = (numberOf r, [])

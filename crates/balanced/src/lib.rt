@@ -6,9 +6,11 @@ use gray::convertible;
 use positions::power;
 use refusals::Refusal;
 use refusals::Verdict;
+use refusals::unknowns_fit;
 ghost use mathlib.Core.Path.{_≡_};
 ghost use Prim.Native.Nat.{_≤_};
 ghost use lib.IntN.{pos, _-ℤ_};
+ghost use Rattle.refusals.specs.Limits.{mostUnknowns};
 ghost use Rattle.balanced.specs.Balanced.{turned, balancedOf, unbalancedOf};
 ghost use Rattle.gray.specs.Answers.{convertVerdict, pointFrom, told, pointTold};
 ghost use Rattle.balanced.specs.Answers.{balancedVerdict, balancedFrom, balancedTold};
@@ -21,7 +23,7 @@ pub enum BalancedAnswer {
 
 // The number of n digits, each a more than that of x modulo 3.
 fn turn(a: u64, n: u64, x: u64) -> u64
-    requires { ⌜ (a ≤ 2) × (n ≤ 20) ⌝ }
+    requires { ⌜ (a ≤ 2) × (n ≤ mostUnknowns) ⌝ }
     ensures { λ r. ⌜ r ≡ turned a n x ⌝ }
 {
     let mut weight = power(n);
@@ -48,7 +50,7 @@ fn minus(a: u64, b: u64) -> i64
 // The balanced number of a point of n unknowns.
 pub fn to_balanced(n: u64, x: Point) -> BalancedAnswer
     ensures answer { λ r. ⌜ r ≡ balancedFrom (convertVerdict n (x .0)) (balancedOf n (x .0)) ⌝ }
-    ensures number { λ r. ⌜ balancedTold r ≡ told (convertVerdict n (x .0)) (balancedOf n (x .0)) (pos 0) ⌝ }
+    ensures number { λ r. ⌜ balancedTold r ≡ told (convertVerdict n (x .0)) (balancedOf n (x .0)) ⌝ }
 {
     let verdict = convertible(n, x.0);
     match verdict {
@@ -65,12 +67,9 @@ pub fn to_balanced(n: u64, x: Point) -> BalancedAnswer
 // The point of n unknowns whose balanced number is y.
 pub fn from_balanced(n: u64, y: i64) -> PointAnswer
     ensures answer { λ r. ⌜ r ≡ pointFrom (balancedVerdict n y) (unbalancedOf n y) ⌝ }
-    ensures number { λ r. ⌜ pointTold r ≡ told (balancedVerdict n y) (unbalancedOf n y) 0 ⌝ }
+    ensures number { λ r. ⌜ pointTold r ≡ told (balancedVerdict n y) (unbalancedOf n y) ⌝ }
 {
-    if n < 1 {
-        return PointAnswer::Refused(Refusal::Size);
-    }
-    if n > 20 {
+    if !unknowns_fit(n) {
         return PointAnswer::Refused(Refusal::Size);
     }
     let half = minus((power(n) - 1) / 2, 0);

@@ -16,7 +16,7 @@ use Rattle.trits.proofs.LegalLaw.{bit-zero}
 use Rattle.trits.proofs.HoldLaw.{holds-ext, holds-add, holds-negate}
 use Rattle.tables.specs.Monomials.{countOf, rowStart}
 use Rattle.tables.specs.Words.{entry}
-use Rattle.tables.proofs.WordLaw.{trit-lt}
+use Rattle.trits.proofs.LegalLaw.{trit-lt}
 use Rattle.cubics.specs.Triples.{Triples, prev3, low3, high3, tableOf3}
 use Rattle.cubics.proofs.BackLaw.{low-same, low-other, table-all-same, table-all-other}
 use Rattle.cubic_tables.specs.Order.{cubicCount, tripleIndex, tripleStart}

@@ -12,7 +12,7 @@ use Rattle.trits.proofs.HoldLaw.{holds-is, holds-add}
 use Rattle.tables.specs.Monomials.{countOf, indexOf}
 use Rattle.tables.specs.Words.{entry, putAt, Written}
 use Rattle.tables.proofs.IndexLaw.{count-is, index-lt}
-use Rattle.tables.proofs.WordLaw.{trit-lt}
+use Rattle.trits.proofs.LegalLaw.{trit-lt}
 use Rattle.tables.proofs.WriteLaw.{written-put, written-none, row-entry, row-next}
 use Rattle.cubic_tables.specs.Order.{cubicCount, tripleIndex}
 use Rattle.cubic_tables.specs.Words.{CubicTable}

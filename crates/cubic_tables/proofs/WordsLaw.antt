@@ -13,7 +13,8 @@ use Rattle.trits.proofs.ExtLaw.{trit-of, legal-of, is-of, of-ext}
 use Rattle.tables.specs.Monomials.{indexOf}
 use Rattle.tables.specs.Words.{entry}
 use Rattle.tables.proofs.IndexLaw.{index-lt, count-is}
-use Rattle.tables.proofs.WordLaw.{length-tabled, entry-tabled, is-tabled, tabled-ext, trit-lt}
+use Rattle.tables.proofs.WordLaw.{length-tabled, entry-tabled, is-tabled, tabled-ext}
+use Rattle.trits.proofs.LegalLaw.{trit-lt}
 use Rattle.cubics.specs.Cubic.{Cubic}
 use Rattle.cubic_tables.specs.Order.{cubicCount, tripleIndex, cubicNth}
 use Rattle.cubic_tables.specs.Words.{CubicTable, cubicAt, cubicWords}

@@ -13,6 +13,8 @@ ghost use mathlib.Core.Path.{_≡_};
 ghost use mathlib.Core.List.{List};
 ghost use Prim.Native.Nat.{ℕ, _+_, _-_, _*_, _<_, _≤_};
 ghost use lib.ListN.{length};
+ghost use Rattle.refusals.specs.Limits.{mostUnknowns};
+ghost use Rattle.refusals.specs.Refusal.{codeOf};
 ghost use Rattle.trits.specs.Trit.{Legal, ofTrits};
 ghost use Rattle.tables.specs.Monomials.{countOf, indexOf};
 ghost use Rattle.tables.specs.Words.{Written, Table, differencesOf, coefficientsOf};
@@ -21,7 +23,7 @@ ghost use Rattle.tables.specs.Answers.{copyVerdict, differencesAfter, coefficie
 
 // The entry of the unknown before i and i: zero where there is none.
 fn product_before(table: &[u64], n: usize, i: usize) -> Vector
-    requires { ⌜ (n ≤ 20) × (i < n) × (length (now table) ≡ 2 * countOf n) ⌝ }
+    requires { ⌜ (n ≤ mostUnknowns) × (i < n) × (length (now table) ≡ 2 * countOf n) ⌝ }
     ensures { λ r. ⌜ r ≡ beforeOf n (now (table .entry)) i ⌝ }
 {
     if i == 0 {
@@ -32,7 +34,7 @@ fn product_before(table: &[u64], n: usize, i: usize) -> Vector
 
 // The products of unknown i with the later ones: each is that of `from` and `step`.
 fn turn_products(from: &[u64], to: &mut [u64], n: usize, i: usize, step: Vector)
-    requires { ⌜ (n ≤ 20) × (i < n) × (length (now from) ≡ 2 * countOf n) × (length (now to) ≡ 2 * countOf n) ⌝ }
+    requires { ⌜ (n ≤ mostUnknowns) × (i < n) × (length (now from) ≡ 2 * countOf n) × (length (now to) ≡ 2 * countOf n) ⌝ }
     ensures { λ _. ⌜ ((m : ℕ) → (f : ℕ → ℕ) → (g : List ℕ) → Table n m (now (from .entry)) → step ≡ ofTrits m f
         → Products n m i (now (from .entry)) f g → Written g (indexOf n i i + 1) (indexOf n i i + (n - i)) (now (to .entry)) (now (to .exit))) ⌝ }
 {
@@ -47,7 +49,7 @@ fn turn_products(from: &[u64], to: &mut [u64], n: usize, i: usize, step: Vector)
 
 // The entries of unknown i and of its products with itself and the later ones; p is the coefficient of the unknown before it and it.
 fn turn(from: &[u64], to: &mut [u64], n: usize, i: usize, p: Vector)
-    requires { ⌜ (n ≤ 20) × (i < n) × (length (now from) ≡ 2 * countOf n) × (length (now to) ≡ 2 * countOf n) ⌝ }
+    requires { ⌜ (n ≤ mostUnknowns) × (i < n) × (length (now from) ≡ 2 * countOf n) × (length (now to) ≡ 2 * countOf n) ⌝ }
     ensures { λ _. ⌜ ((m : ℕ) → (g : List ℕ) → Table n m (now (from .entry)) → Legal m p → Turned n m i (now (from .entry)) p g
         → Filled g n i (now (to .entry)) → Filled g n (i + 1) (now (to .exit))) ⌝ }
 {
@@ -61,7 +63,7 @@ fn turn(from: &[u64], to: &mut [u64], n: usize, i: usize, p: Vector)
 
 // The differences of the coefficients `from`, into `to`.
 pub fn differences_into(from: &[u64], to: &mut [u64], n: usize)
-    requires { ⌜ (n ≤ 20) × (length (now from) ≡ 2 * countOf n) × (length (now to) ≡ 2 * countOf n) ⌝ }
+    requires { ⌜ (n ≤ mostUnknowns) × (length (now from) ≡ 2 * countOf n) × (length (now to) ≡ 2 * countOf n) ⌝ }
     ensures { λ _. ⌜ ((m : ℕ) → Table n m (now (from .entry)) → now (to .exit) ≡ differencesOf n m (now (from .entry))) ⌝ }
 {
     put_entry(to, 0, vector(from, 0));
@@ -75,7 +77,7 @@ pub fn differences_into(from: &[u64], to: &mut [u64], n: usize)
 
 // The coefficients of the differences `from`, into `to`: the entry before i and i is a coefficient that is written by then.
 pub fn coefficients_into(from: &[u64], to: &mut [u64], n: usize)
-    requires { ⌜ (n ≤ 20) × (length (now from) ≡ 2 * countOf n) × (length (now to) ≡ 2 * countOf n) ⌝ }
+    requires { ⌜ (n ≤ mostUnknowns) × (length (now from) ≡ 2 * countOf n) × (length (now to) ≡ 2 * countOf n) ⌝ }
     ensures { λ _. ⌜ ((m : ℕ) → Table n m (now (from .entry)) → now (to .exit) ≡ coefficientsOf n m (now (from .entry))) ⌝ }
 {
     put_entry(to, 0, vector(from, 0));
@@ -89,8 +91,9 @@ pub fn coefficients_into(from: &[u64], to: &mut [u64], n: usize)
 
 // The table of differences of a coefficient table: `table` is written whole, or on a refusal left as it was.
 pub fn differences(n: u64, m: u64, coefficients: &[u64], table: &mut [u64]) -> Verdict
-    ensures { λ r. ⌜ r ≡ copyVerdict n m (now (coefficients .entry)) (now (table .entry)) ⌝ }
+    ensures answer { λ r. ⌜ r ≡ copyVerdict n m (now (coefficients .entry)) (now (table .entry)) ⌝ }
     ensures left { λ r. ⌜ now (table .exit) ≡ differencesAfter n m (now (coefficients .entry)) (now (table .entry)) ⌝ }
+    ensures number { λ r. ⌜ codeOf r ≡ codeOf (copyVerdict n m (now (coefficients .entry)) (now (table .entry))) ⌝ }
 {
     let verdict = check_copy(n, m, coefficients, table.len());
     if let Verdict::Done = verdict {
@@ -101,12 +104,13 @@ pub fn differences(n: u64, m: u64, coefficients: &[u64], table: &mut [u64]) -> V
 
 // The coefficients of a table of differences: `coefficients` is written whole, or on a refusal left as it was.
 pub fn coefficients(n: u64, m: u64, table: &[u64], coefficients: &mut [u64]) -> Verdict
-    ensures { λ r. ⌜ r ≡ copyVerdict n m (now (table .entry)) (now (coefficients .entry)) ⌝ }
+    ensures answer { λ r. ⌜ r ≡ copyVerdict n m (now (table .entry)) (now (coefficients .entry)) ⌝ }
     ensures left { λ r. ⌜ now (coefficients .exit) ≡ coefficientsAfter n m (now (table .entry)) (now (coefficients .entry)) ⌝ }
+    ensures number { λ r. ⌜ codeOf r ≡ codeOf (copyVerdict n m (now (table .entry)) (now (coefficients .entry))) ⌝ }
 {
-    let verdict = check_copy(n, m, table, coefficients.len());
-    if let Verdict::Done = verdict {
+    let judged = check_copy(n, m, table, coefficients.len());
+    if let Verdict::Done = judged {
         coefficients_into(table, coefficients, n as usize);
     }
-    verdict
+    judged
 }

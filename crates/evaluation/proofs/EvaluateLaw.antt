@@ -17,6 +17,7 @@ use Rattle.trits.specs.Words.{Added, Scaled}
 use Rattle.trits.proofs.ExtLaw.{of-ext}
 use Rattle.gray.specs.Numbers.{digit}
 use Rattle.polynomials.specs.Poly.{Poly, valueOf}
+use Rattle.polynomials.proofs.PolyLaw.{value-ext}
 use Rattle.tables.specs.Monomials.{countOf, indexOf}
 use Rattle.tables.specs.Words.{entry, Table, polyAt, valuesAt}
 use Rattle.evaluation.specs.Parts.{rowOf}
@@ -119,15 +120,6 @@ module _ (n m : ℕ) (t : List ℕ) (x : ℕ → ℕ) (table : Table n m t) wher
 
 pub rows-done : (m n i : ℕ) (F : ℕ → Poly) (x : ℕ → ℕ) → i ≡ n → ofTrits m (λ e. rowsPart (F e) n i x) ≡ ofTrits m (λ e. valueOf (F e) n x)
 rows-done m n i F x h = of-ext m _ _ (λ e l. ap (λ (k : ℕ). rowsPart (F e) n k x % 3) h ∙ ap (λ (y : ℕ). y % 3) (rows-whole (F e) n x))
-
--- the value depends on the n digits alone
-pub value-ext : (f : Poly) (n : ℕ) (x y : ℕ → ℕ) → ((k : ℕ) → k < n → x k ≡ y k) → valueOf f n x ≡ valueOf f n y
-unfolding valueOf
-value-ext f n x y e =
-    ap₂ (λ (u v : ℕ). f .const + u + v) (sum-ext n (λ i. f .lin i * x i) (λ i. f .lin i * y i) (λ i h. ap (λ (z : ℕ). f .lin i * z) (e i h)))
-    (sum-ext n (λ i. sum (n - i) (λ d. f .quad i (i + d) * (x i * x (i + d)))) (λ i. sum (n - i) (λ d. f .quad i (i + d) * (y i * y (i + d))))
-    (λ i h. sum-ext (n - i) (λ d. f .quad i (i + d) * (x i * x (i + d))) (λ d. f .quad i (i + d) * (y i * y (i + d)))
-    (λ d l. ap₂ (λ (u v : ℕ). f .quad i (i + d) * (u * v)) (e i h) (e (i + d) (omega arith)))))
 
 pub values-are : (n m : ℕ) (t : List ℕ) (x : ℕ) (d : ℕ → ℕ) → ((k : ℕ) → k < n → d k ≡ digit 3 x k) → ofTrits m (λ e. valueOf (polyAt n t e) n d) ≡ valuesAt n m t x
 unfolding valuesAt

@@ -1,6 +1,7 @@
 // The value of a system at a point, from its coefficient table.
 use gray::Point;
 use positions::power;
+use refusals::MOST_UNKNOWNS;
 use refusals::Refusal;
 use refusals::Verdict;
 use tables::Evaluated;
@@ -13,6 +14,7 @@ use trits::times;
 ghost use mathlib.Core.Path.{_≡_};
 ghost use Prim.Native.Nat.{ℕ, _+_, _-_, _*_, _<_, _≤_};
 ghost use lib.ListN.{length, getD};
+ghost use Rattle.refusals.specs.Limits.{mostUnknowns};
 ghost use Rattle.trits.specs.Trit.{ofTrits};
 ghost use Rattle.gray.specs.Numbers.{digit};
 ghost use Rattle.polynomials.specs.Poly.{valueOf};
@@ -22,13 +24,13 @@ ghost use Rattle.evaluation.specs.Parts.{rowOf};
 ghost use Rattle.tables.specs.Answers.{evaluateOf, Tells};
 
 // The 20 lowest digits of a point.
-pub fn digits(x: u64) -> [u64; 20]
-    ensures { λ r. ⌜ ((k : ℕ) → k < 20 → getD r k 0 ≡ digit 3 x k) ⌝ }
+fn digits(x: u64) -> [u64; MOST_UNKNOWNS]
+    ensures { λ r. ⌜ ((k : ℕ) → k < mostUnknowns → getD r k 0 ≡ digit 3 x k) ⌝ }
 {
-    let mut r = [0u64; 20];
+    let mut r = [0u64; MOST_UNKNOWNS];
     let mut rest = x;
     let mut k: usize = 0;
-    while k < 20 {
+    while k < MOST_UNKNOWNS {
         r[k] = rest % 3;
         rest = rest / 3;
         k += 1;
@@ -37,8 +39,8 @@ pub fn digits(x: u64) -> [u64; 20]
 }
 
 // What unknown i is multiplied by: its own coefficient, and those of its products with itself and the later ones, at the digits x.
-fn row_value(table: &[u64], n: usize, i: usize, x: &[u64; 20]) -> Vector
-    requires { ⌜ (n ≤ 20) × (i < n) × (length (now table) ≡ 2 * countOf n) ⌝ }
+fn row_value(table: &[u64], n: usize, i: usize, x: &[u64; MOST_UNKNOWNS]) -> Vector
+    requires { ⌜ (n ≤ mostUnknowns) × (i < n) × (length (now table) ≡ 2 * countOf n) ⌝ }
     ensures { λ r. ⌜ ((m : ℕ) → Table n m (now (table .entry)) → r ≡ ofTrits m (λ e. rowOf (polyAt n (now (table .entry)) e) n i (λ k. getD (now (x .entry)) k 0))) ⌝ }
 {
     let mut sum = vector(table, 1 + i);
@@ -53,8 +55,8 @@ fn row_value(table: &[u64], n: usize, i: usize, x: &[u64; 20]) -> Vector
 }
 
 // The value at the digits x of a legal coefficient table, which is not judged again.
-pub fn value_at(table: &[u64], n: usize, x: &[u64; 20]) -> Vector
-    requires { ⌜ (n ≤ 20) × (length (now table) ≡ 2 * countOf n) ⌝ }
+pub fn value_at(table: &[u64], n: usize, x: &[u64; MOST_UNKNOWNS]) -> Vector
+    requires { ⌜ (n ≤ mostUnknowns) × (length (now table) ≡ 2 * countOf n) ⌝ }
     ensures { λ r. ⌜ ((m : ℕ) → Table n m (now (table .entry)) → r ≡ ofTrits m (λ e. valueOf (polyAt n (now (table .entry)) e) n (λ k. getD (now (x .entry)) k 0))) ⌝ }
 {
     let mut sum = vector(table, 0);

@@ -1,4 +1,5 @@
 -- What the conversions answer, in document 01's numbers and values.
+use mathlib.Core.List.{List, [], _∷_}
 use Prim.Native.Nat.{ℕ, _^_}
 use lib.Dec.{leb}
 use Rattle.refusals.specs.declared.Refusal.the-variants.{Range}
@@ -23,15 +24,15 @@ abbrev pub placeFrom : Verdict → ℕ → PlaceAnswer
 placeFrom verdict.Done p = place.At (record { 0 = p })
 placeFrom (verdict.Refused r) p = place.Refused r
 
--- document 01's number and value of each answer: 0 and the value, or the refusal's number and no value
-abbrev pub told : {A : Type 0} → Verdict → A → A → ℕ × A
-told verdict.Done value none = (0, value)
-told (verdict.Refused r) value none = (numberOf r, none)
+-- document 01's number and values of each answer: 0 and the value, or the refusal's number and no value
+abbrev pub told : {A : Type 0} → Verdict → A → ℕ × List A
+told verdict.Done value = (0, value ∷ [])
+told (verdict.Refused r) value = (numberOf r, [])
 
-abbrev pub pointTold : PointAnswer → ℕ × ℕ
-pointTold (point.At x) = (0, x .0)
-pointTold (point.Refused r) = (numberOf r, 0)
+abbrev pub pointTold : PointAnswer → ℕ × List ℕ
+pointTold (point.At x) = (0, x .0 ∷ [])
+pointTold (point.Refused r) = (numberOf r, [])
 
-abbrev pub placeTold : PlaceAnswer → ℕ × ℕ
-placeTold (place.At p) = (0, p .0)
-placeTold (place.Refused r) = (numberOf r, 0)
+abbrev pub placeTold : PlaceAnswer → ℕ × List ℕ
+placeTold (place.At p) = (0, p .0 ∷ [])
+placeTold (place.Refused r) = (numberOf r, [])

@@ -6,14 +6,16 @@ use crate::PointAnswer;
 use positions::power;
 use refusals::Refusal;
 use refusals::Verdict;
+use refusals::unknowns_fit;
 ghost use mathlib.Core.Path.{_≡_};
 ghost use Prim.Native.Nat.{_≤_};
+ghost use Rattle.refusals.specs.Limits.{mostUnknowns};
 ghost use Rattle.gray.specs.Numbers.{pointOf, placeOf};
 ghost use Rattle.gray.specs.Answers.{convertVerdict, pointFrom, placeFrom, told, pointTold, placeTold};
 
 // The point at a place below 3 to the n, for a caller that knows n to be at most 20: no test, and no division but by 3.
 pub fn point_at(n: u64, p: Place) -> Point
-    requires { ⌜ n ≤ 20 ⌝ }
+    requires { ⌜ n ≤ mostUnknowns ⌝ }
     ensures { λ r. ⌜ r .0 ≡ pointOf 3 n (p .0) ⌝ }
 {
     let mut rest = p.0;
@@ -34,7 +36,7 @@ pub fn point_at(n: u64, p: Place) -> Point
 // The place of a point below 3 to the n, for a caller that knows n to be at most 20: from the highest digit down, a digit of the
 // place is that of the point plus the place's digit above.
 pub fn place_at(n: u64, x: Point) -> Place
-    requires { ⌜ n ≤ 20 ⌝ }
+    requires { ⌜ n ≤ mostUnknowns ⌝ }
     ensures { λ r. ⌜ r .0 ≡ placeOf 3 n (x .0) ⌝ }
 {
     let point = x.0;
@@ -53,10 +55,7 @@ pub fn place_at(n: u64, x: Point) -> Place
 pub fn convertible(n: u64, x: u64) -> Verdict
     ensures { λ r. ⌜ r ≡ convertVerdict n x ⌝ }
 {
-    if n < 1 {
-        return Verdict::Refused(Refusal::Size);
-    }
-    if n > 20 {
+    if !unknowns_fit(n) {
         return Verdict::Refused(Refusal::Size);
     }
     let end = power(n);
@@ -69,7 +68,7 @@ pub fn convertible(n: u64, x: u64) -> Verdict
 // The point at a place of the walk over n unknowns.
 pub fn point_of(n: u64, p: Place) -> PointAnswer
     ensures answer { λ r. ⌜ r ≡ pointFrom (convertVerdict n (p .0)) (pointOf 3 n (p .0)) ⌝ }
-    ensures number { λ r. ⌜ pointTold r ≡ told (convertVerdict n (p .0)) (pointOf 3 n (p .0)) 0 ⌝ }
+    ensures number { λ r. ⌜ pointTold r ≡ told (convertVerdict n (p .0)) (pointOf 3 n (p .0)) ⌝ }
 {
     let verdict = convertible(n, p.0);
     match verdict {
@@ -84,7 +83,7 @@ pub fn point_of(n: u64, p: Place) -> PointAnswer
 // The place of a point of n unknowns.
 pub fn place_of(n: u64, x: Point) -> PlaceAnswer
     ensures answer { λ r. ⌜ r ≡ placeFrom (convertVerdict n (x .0)) (placeOf 3 n (x .0)) ⌝ }
-    ensures number { λ r. ⌜ placeTold r ≡ told (convertVerdict n (x .0)) (placeOf 3 n (x .0)) 0 ⌝ }
+    ensures number { λ r. ⌜ placeTold r ≡ told (convertVerdict n (x .0)) (placeOf 3 n (x .0)) ⌝ }
 {
     let verdict = convertible(n, x.0);
     match verdict {

@@ -12,7 +12,8 @@ use Rattle.refusals.specs.declared.Refusal.the-variants as refusal
 use Rattle.refusals.specs.declared.Verdict.{Verdict}
 use Rattle.refusals.specs.declared.Verdict.the-variants as verdict
 use Rattle.refusals.specs.Refusal.{refuse, after}
-use Rattle.refusals.proofs.RefusalLaw.{refuse-none, Within, sized-next}
+use Rattle.refusals.proofs.RefusalLaw.{refuse-none, sized-next}
+use Rattle.refusals.specs.Limits.{Within}
 use Rattle.tables.specs.Monomials.{countOf}
 use Rattle.tables.specs.Words.{Table, legalFront, wordsOf, differencesOf}
 use Rattle.tables.specs.Answers.{long, paired, checkedOf, copyVerdict, differencesAfter}

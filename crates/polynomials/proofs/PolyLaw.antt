@@ -6,7 +6,7 @@ use native.Mathlib.Nat.{min-eq-left, min-eq-right, max-eq-left, max-eq-right}
 use native.Mathlib.Decide.{ℕ-discrete, decLt}
 use native.Mathlib.Omega.{arith}
 use Rattle.residues.specs.Sums.{sum, same}
-use Rattle.polynomials.specs.Poly.{Poly, eval, slope, diff, prev}
+use Rattle.polynomials.specs.Poly.{Poly, valueOf, eval, slope, diff, prev}
 use Rattle.residues.proofs.SumLaw.{same-self, same-other, sum-add, sum-ext, sum-none, sum-one, sum-cong}
 use Rattle.residues.proofs.ModLaw.{Cong, crefl, cof, csym, _⨾_, cadd, cmul}
 
@@ -114,3 +114,12 @@ module _ (q : ℕ) where
   unfolding eval
   eval-none f zero = refl
   eval-none f (suc n) = omega (arith, eval-none f n)
+
+-- the value depends on the n digits alone
+pub value-ext : (f : Poly) (n : ℕ) (x y : ℕ → ℕ) → ((k : ℕ) → k < n → x k ≡ y k) → valueOf f n x ≡ valueOf f n y
+unfolding valueOf
+value-ext f n x y e =
+    ap₂ (λ (u v : ℕ). f .const + u + v) (sum-ext n (λ i. f .lin i * x i) (λ i. f .lin i * y i) (λ i h. ap (λ (z : ℕ). f .lin i * z) (e i h)))
+    (sum-ext n (λ i. sum (n - i) (λ d. f .quad i (i + d) * (x i * x (i + d)))) (λ i. sum (n - i) (λ d. f .quad i (i + d) * (y i * y (i + d))))
+    (λ i h. sum-ext (n - i) (λ d. f .quad i (i + d) * (x i * x (i + d))) (λ d. f .quad i (i + d) * (y i * y (i + d)))
+    (λ d l. ap₂ (λ (u v : ℕ). f .quad i (i + d) * (u * v)) (e i h) (e (i + d) (omega arith)))))

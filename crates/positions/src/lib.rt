@@ -6,7 +6,7 @@ ghost use Rattle.positions.specs.Positions.{lowestOf, positions};
 ghost use Rattle.positions.specs.Parts.{Splits, positionAt};
 
 // The position of the lowest nonzero digit of p; 0 for p = 0.
-pub fn first_position(p: u64) -> usize
+fn first_position(p: u64) -> usize
     ensures { λ r. ⌜ r ≡ lowestOf 3 p ⌝ }
 {
     if p == 0 {

@@ -1,14 +1,18 @@
 -- What is done was refused by no test, and what no test refuses is asked next.
 use mathlib.Core.Path.{_≡_, refl, sym, ap, _∙_}
-use mathlib.Core.Bool.{Bool, true, false}
+use mathlib.Core.Bool.{Bool, true, false, true≢false}
+use mathlib.Core.Logic.{_↔_, by-cases}
 use Prim.Native.Nat.{ℕ, _≤_, _<_}
+use native.Mathlib.Decide.{decLt}
 use native.Mathlib.Omega.{arith}
 use lib.Dec.{ltb}
-use borrow.Author.Tests.{ltb-false, le-ltb}
+use borrow.Author.Tests.{ltb-false, lt-ltb, le-ltb}
 use Rattle.refusals.specs.declared.Refusal.{Refusal}
 use Rattle.refusals.specs.declared.Verdict.{Verdict}
 use Rattle.refusals.specs.declared.Verdict.the-variants.{Done, Refused}
-use Rattle.refusals.specs.Refusal.{refuse, sized, after, codeOf}
+use Rattle.refusals.specs.declared.Refusal.the-variants.{Size}
+use Rattle.refusals.specs.Limits.{Unknowns, Within}
+use Rattle.refusals.specs.Refusal.{refuse, sizedUnknowns, sized, after, codeOf}
 
 never : (r : Refusal) → Refused r ≡ Done → ⊥
 never r e = let z : _≡_ {A = ℕ} 0 1 = cc in omega arith
@@ -23,13 +27,6 @@ done-next false r v e = e
 
 pub refuse-none : (b : Bool) (r : Refusal) (v : Verdict) → b ≡ false → refuse b r v ≡ v
 refuse-none b r v e = rw e
-
--- within the limits
-pub record Within (n m : ℕ) : Type 0 where
-  pub least : 1 ≤ n
-  pub most : n ≤ 20
-  pub one : 1 ≤ m
-  pub wide : m ≤ 64
 
 -- refusal 1 decides that
 pub sized-within : (n m : ℕ) (v : Verdict) → sized n m v ≡ Done → Within n m
@@ -51,6 +48,35 @@ sized-next n m v w =
 
 pub sized-done : (n m : ℕ) (v : Verdict) → sized n m v ≡ Done → v ≡ Done
 sized-done n m v e = sym (sized-next n m v (sized-within n m v e)) ∙ e
+
+-- a test that answers by a condition, and said no
+pub said-no : {A : Type 0} (r : Bool) → (r ≡ true) ↔ A → r ≡ false → A → ⊥
+said-no r h e a = true≢false (sym (h .1 a) ∙ e)
+
+-- refusal 1 of n alone
+pub unknowns-next : (n : ℕ) (v : Verdict) → Unknowns n → sizedUnknowns n v ≡ v
+unknowns-next n v w = refuse-none (ltb n 1) Size _ (le-ltb _ _ (w .least)) ∙ refuse-none (ltb 20 n) Size _ (le-ltb _ _ (w .most))
+
+pub unknowns-not : (n : ℕ) (v : Verdict) → (Unknowns n → ⊥) → sizedUnknowns n v ≡ Refused Size
+unknowns-not n v f =
+    by-cases (decLt n 1) (λ h. rw (lt-ltb n 1 h))
+    (λ h. by-cases (decLt 20 n) (λ l. rw (le-ltb n 1 (omega arith), lt-ltb 20 n l)) (λ l. absurd (f (record { least = omega arith; most = omega arith }))))
+
+pub unknowns-done : (n : ℕ) (v : Verdict) → sizedUnknowns n v ≡ Done → Unknowns n
+unknowns-done n v e =
+    record {
+      least = ltb-false _ _ (done-test (ltb n 1) Size _ e);
+      most = ltb-false _ _ (done-test (ltb 20 n) Size _ (done-next (ltb n 1) Size _ e));
+    }
+
+-- refusal 1 of n and m
+pub sized-not : (n m : ℕ) (v : Verdict) → (Within n m → ⊥) → sized n m v ≡ Refused Size
+sized-not n m v f =
+    by-cases (decLt n 1) (λ a. rw (lt-ltb n 1 a))
+    (λ a. by-cases (decLt 20 n) (λ b. rw (le-ltb n 1 (omega arith), lt-ltb 20 n b))
+    (λ b. by-cases (decLt m 1) (λ c. rw (le-ltb n 1 (omega arith), le-ltb 20 n (omega arith), lt-ltb m 1 c))
+    (λ c. by-cases (decLt 64 m) (λ d. rw (le-ltb n 1 (omega arith), le-ltb 20 n (omega arith), le-ltb m 1 (omega arith), lt-ltb 64 m d))
+    (λ d. absurd (f (record { least = omega arith; most = omega arith; one = omega arith; wide = omega arith }))))))
 
 -- a test that refused refuses whatever is asked next
 pub refused-next : (b : Bool) (r f : Refusal) (v w : Verdict) → refuse b r v ≡ Refused f → (v ≡ Refused f → w ≡ Refused f) → refuse b r w ≡ Refused f

@@ -1,1 +1,3 @@
+pub mod Choice
+pub mod Limits
 pub mod Refusal

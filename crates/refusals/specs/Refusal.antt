@@ -1,11 +1,13 @@
 -- Document 01's refusal numbers, one for each case; and what a refusal leaves of what was lent.
-use mathlib.Core.Bool.{Bool, true, false}
+use mathlib.Core.Bool.{Bool}
 use Prim.Native.Nat.{ℕ}
 use lib.Dec.{ltb}
 use Rattle.refusals.specs.declared.Refusal.{Refusal}
 use Rattle.refusals.specs.declared.Refusal.the-variants.{Size, Length, Pair, Range, Record, Budget, List}
 use Rattle.refusals.specs.declared.Verdict.{Verdict}
 use Rattle.refusals.specs.declared.Verdict.the-variants.{Done, Refused}
+use Rattle.refusals.specs.Choice.{pick}
+use Rattle.refusals.specs.Limits.{mostUnknowns, mostEquations}
 
 abbrev pub numberOf : Refusal → ℕ
 numberOf Size = 1
@@ -23,15 +25,14 @@ codeOf (Refused r) = numberOf r
 
 -- r where the test holds, else what is asked next
 abbrev pub refuse : Bool → Refusal → Verdict → Verdict
-refuse true r v = Refused r
-refuse false r v = v
+refuse b r v = pick b (Refused r) v
 
 -- refusal 1: n not 1 to 20, or m not 1 to 64
 abbrev pub sizedUnknowns : ℕ → Verdict → Verdict
-sizedUnknowns n v = refuse (ltb n 1) Size (refuse (ltb 20 n) Size v)
+sizedUnknowns n v = refuse (ltb n 1) Size (refuse (ltb mostUnknowns n) Size v)
 
 abbrev pub sized : ℕ → ℕ → Verdict → Verdict
-sized n m v = sizedUnknowns n (refuse (ltb m 1) Size (refuse (ltb 64 m) Size v))
+sized n m v = sizedUnknowns n (refuse (ltb m 1) Size (refuse (ltb mostEquations m) Size v))
 
 -- what was lent, after: the new contents, or on a refusal the old ones
 abbrev pub after : {A : Type 0} → Verdict → A → A → A

@@ -1,6 +1,52 @@
-// Why an operation refuses: one case for each of document 01's numbers 1 to 7.
+// Document 01's limits, and why an operation refuses: one case for each of its numbers 1 to 7.
 ghost use mathlib.Core.Path.{_≡_};
+ghost use mathlib.Core.Logic.{_↔_};
+ghost use mathlib.Core.Bool.{true};
+ghost use Rattle.refusals.specs.Limits.{Unknowns, Within};
 ghost use Rattle.refusals.specs.Refusal.{numberOf, codeOf};
+
+// A system has 1 to 20 unknowns.
+pub const MOST_UNKNOWNS: usize = 20;
+
+// And 1 to 64 equations, one for each bit of a word.
+pub const MOST_EQUATIONS: u64 = 64;
+
+// The words of a table of 20 unknowns.
+pub const MOST_WORDS: usize = 462;
+
+// A record's words, and its bytes for C.
+pub const RECORD_WORDS: usize = 45;
+
+pub const RECORD_LENGTH: usize = 360;
+
+// The entries of the list that one call fills, where a longer list is filled by several.
+pub const PIECE_ENTRIES: usize = 1024;
+
+// The bytes of the longest graph text.
+pub const LONGEST_TEXT: usize = 32768;
+
+// Whether n is within its limits.
+pub fn unknowns_fit(n: u64) -> bool
+    ensures { λ r. ⌜ (r ≡ true) ↔ Unknowns n ⌝ }
+{
+    if n < 1 {
+        return false;
+    }
+    n <= MOST_UNKNOWNS as u64
+}
+
+// Whether n and m are.
+pub fn sizes_fit(n: u64, m: u64) -> bool
+    ensures { λ r. ⌜ (r ≡ true) ↔ Within n m ⌝ }
+{
+    if !unknowns_fit(n) {
+        return false;
+    }
+    if m < 1 {
+        return false;
+    }
+    m <= MOST_EQUATIONS
+}
 
 pub enum Refusal {
     // n is not 1 to 20, or m is not 1 to 64.

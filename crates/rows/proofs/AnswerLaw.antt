@@ -8,7 +8,9 @@ use borrow.Author.Tests.{eq-eqb, ne-eqb}
 use Rattle.refusals.specs.declared.Refusal.the-variants.{Length}
 use Rattle.refusals.specs.declared.Verdict.{Verdict}
 use Rattle.refusals.specs.declared.Verdict.the-variants.{Done, Refused}
-use Rattle.refusals.specs.Refusal.{sized, after}
+use Rattle.refusals.specs.Limits.{Within}
+use Rattle.refusals.specs.Refusal.{codeOf, sized, after}
+use Rattle.refusals.proofs.RefusalLaw.{sized-next}
 use Rattle.tables.specs.Monomials.{countOf}
 use Rattle.tables.specs.Words.{packedRows, packed}
 use Rattle.tables.specs.Answers.{longOf, rowsVerdict, packVerdict, packAfter}
@@ -28,16 +30,22 @@ module _ (N m : ℕ) (rows : List ℤ) (t : List ℕ) where
     pub pack-done : length t ≡ 2 * N → rowsVerdict N m rows t ≡ Done
     pack-done e = rows-passed ∙ long-passed N t Done e
 
--- a whole call, whose sizes are passed and whose count k is that of the monomials, N
-module _ (N n m : ℕ) (rows : List ℤ) (t new : List ℕ) (k : ℕ) (r : Verdict) (sizes : (v : Verdict) → sized n m v ≡ v) (count : k ≡ N)
+-- a whole call, whose sizes are within their limits and whose count k is that of the monomials, N
+module _ (N n m : ℕ) (rows : List ℤ) (t new : List ℕ) (k : ℕ) (r : Verdict) (w : Within n m) (count : k ≡ N)
     (told : r ≡ rowsVerdict k m rows t) (left : new ≡ after (rowsVerdict k m rows t) t (packedRows k m rows)) where
   verdict-is : rowsVerdict k m rows t ≡ sized n m (rowsVerdict N m rows t)
-  verdict-is = ap (λ (M : ℕ). rowsVerdict M m rows t) count ∙ sym (sizes _)
+  verdict-is = ap (λ (M : ℕ). rowsVerdict M m rows t) count ∙ sym (sized-next n m (rowsVerdict N m rows t) w)
 
   pub entries-is : (r ≡ sized n m (rowsVerdict N m rows t)) × (new ≡ after (sized n m (rowsVerdict N m rows t)) t (packedRows N m rows))
-  entries-is = (told ∙ verdict-is, left ∙ ap₂ (λ (v : Verdict) (M : ℕ). after v t (packedRows M m rows)) verdict-is count)
+      × (codeOf r ≡ codeOf (sized n m (rowsVerdict N m rows t)))
+  entries-is = (
+    told ∙ verdict-is,
+    left ∙ ap₂ (λ (v : Verdict) (M : ℕ). after v t (packedRows M m rows)) verdict-is count,
+    ap codeOf (told ∙ verdict-is),
+  )
 
-pub pack-is : (n m : ℕ) (rows : List ℤ) (t new : List ℕ) (k : ℕ) (r : Verdict) → ((v : Verdict) → sized n m v ≡ v) → k ≡ countOf n
-    → r ≡ rowsVerdict k m rows t → new ≡ after (rowsVerdict k m rows t) t (packedRows k m rows) → (r ≡ packVerdict n m rows t) × (new ≡ packAfter n m rows t)
+pub pack-is : (n m : ℕ) (rows : List ℤ) (t new : List ℕ) (k : ℕ) (r : Verdict) → Within n m → k ≡ countOf n
+    → r ≡ rowsVerdict k m rows t → new ≡ after (rowsVerdict k m rows t) t (packedRows k m rows)
+    → (r ≡ packVerdict n m rows t) × (new ≡ packAfter n m rows t) × (codeOf r ≡ codeOf (packVerdict n m rows t))
 unfolding packed
 pack-is n m = entries-is (countOf n) n m

@@ -1,10 +1,10 @@
 // Signed rows into words: equation e of the system becomes bit e of every entry.
 use refusals::Refusal;
 use refusals::Verdict;
+use refusals::sizes_fit;
 use residues::remainder;
 use tables::count;
 use tables::put_entry;
-use tables::sizes;
 use tables::vector;
 use trits::Vector;
 use trits::with_trit;
@@ -12,10 +12,11 @@ ghost use mathlib.Core.Path.{_≡_};
 ghost use mathlib.Core.List.{List};
 ghost use Prim.Native.Nat.{ℕ, _+_, _*_, _^_, _<_, _≤_};
 ghost use lib.ListN.{length};
+ghost use Rattle.refusals.specs.Limits.{mostEquations};
+ghost use Rattle.refusals.specs.Refusal.{codeOf, after};
 ghost use Rattle.trits.specs.Trit.{none};
 ghost use Rattle.tables.specs.Words.{entry, Written, packedRows};
 ghost use Rattle.rows.specs.Parts.{RowPacked};
-ghost use Rattle.refusals.specs.Refusal.{after};
 ghost use Rattle.tables.specs.Answers.{rowsVerdict, packVerdict, packAfter};
 
 // Every entry becomes zero.
@@ -46,7 +47,7 @@ fn pack_row(row: &[i8], e: u64, table: &mut [u64])
 
 // The rows of m equations, of so many numbers each: every one is handed on as a part of the row table.
 fn pack_rows(entries: usize, m: usize, rows: &[i8], table: &mut [u64])
-    requires { ⌜ (entries < 2 ^ 32) × (m ≤ 64) × (length (now rows) ≡ m * entries) × (length (now table) ≡ 2 * entries) ⌝ }
+    requires { ⌜ (entries < 2 ^ 32) × (m ≤ mostEquations) × (length (now rows) ≡ m * entries) × (length (now table) ≡ 2 * entries) ⌝ }
     ensures { λ _. ⌜ now (table .exit) ≡ packedRows entries m (now (rows .entry)) ⌝ }
 {
     clear(table, entries);
@@ -61,7 +62,7 @@ fn pack_rows(entries: usize, m: usize, rows: &[i8], table: &mut [u64])
 
 // Signed rows, m times `entries` numbers, into a table of so many entries: `table` is written whole, or on a refusal left as it was.
 pub fn pack_entries(m: u64, entries: usize, rows: &[i8], table: &mut [u64]) -> Verdict
-    requires { ⌜ (m ≤ 64) × (entries < 2 ^ 32) ⌝ }
+    requires { ⌜ (m ≤ mostEquations) × (entries < 2 ^ 32) ⌝ }
     ensures { λ r. ⌜ r ≡ rowsVerdict entries m (now (rows .entry)) (now (table .entry)) ⌝ }
     ensures left { λ r. ⌜ now (table .exit) ≡ after (rowsVerdict entries m (now (rows .entry)) (now (table .entry))) (now (table .entry)) (packedRows entries m (now (rows .entry))) ⌝ }
 {
@@ -77,10 +78,11 @@ pub fn pack_entries(m: u64, entries: usize, rows: &[i8], table: &mut [u64]) -> V
 
 // The rows of a system of n unknowns: its sizes are asked first.
 pub fn pack(n: u64, m: u64, rows: &[i8], table: &mut [u64]) -> Verdict
-    ensures { λ r. ⌜ r ≡ packVerdict n m (now (rows .entry)) (now (table .entry)) ⌝ }
+    ensures answer { λ r. ⌜ r ≡ packVerdict n m (now (rows .entry)) (now (table .entry)) ⌝ }
     ensures left { λ r. ⌜ now (table .exit) ≡ packAfter n m (now (rows .entry)) (now (table .entry)) ⌝ }
+    ensures number { λ r. ⌜ codeOf r ≡ codeOf (packVerdict n m (now (rows .entry)) (now (table .entry))) ⌝ }
 {
-    if !sizes(n, m) {
+    if !sizes_fit(n, m) {
         return Verdict::Refused(Refusal::Size);
     }
     pack_entries(m, count(n as usize), rows, table)

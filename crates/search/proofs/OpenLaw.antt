@@ -12,7 +12,8 @@ use Rattle.refusals.specs.declared.Refusal.the-variants as refusal
 use Rattle.refusals.specs.declared.Verdict.{Verdict}
 use Rattle.refusals.specs.declared.Verdict.the-variants as verdict
 use Rattle.refusals.specs.Refusal.{refuse, sized, after}
-use Rattle.refusals.proofs.RefusalLaw.{done-test, done-next, refuse-none, Within, sized-within, sized-next, sized-done}
+use Rattle.refusals.proofs.RefusalLaw.{done-test, done-next, refuse-none, sized-within, sized-next, sized-done}
+use Rattle.refusals.specs.Limits.{Within}
 use Rattle.trits.specs.declared.Vector.{Vector}
 use Rattle.trits.specs.Trit.{ofTrits}
 use Rattle.trits.proofs.ExtLaw.{of-ext}

@@ -11,7 +11,8 @@ use Rattle.refusals.specs.declared.Refusal.the-variants as refusal
 use Rattle.refusals.specs.declared.Verdict.{Verdict}
 use Rattle.refusals.specs.declared.Verdict.the-variants as verdict
 use Rattle.refusals.specs.Refusal.{codeOf, refuse, sized, after}
-use Rattle.refusals.proofs.RefusalLaw.{done-test, done-next, refuse-none, refused-next, refused-last, Within, sized-within, sized-next, sized-done}
+use Rattle.refusals.proofs.RefusalLaw.{done-test, done-next, refuse-none, refused-next, refused-last, sized-within, sized-next, sized-done}
+use Rattle.refusals.specs.Limits.{Within}
 use Rattle.tables.specs.Monomials.{countOf}
 use Rattle.tables.specs.Words.{legalFront}
 use Rattle.tables.specs.Answers.{long, paired, checkedOf}

@@ -1,7 +1,8 @@
 -- The tests of the code, one after the other, are document 01's order of refusals.
 use mathlib.Core.Path.{_≡_, refl, sym, ap, _∙_}
-use mathlib.Core.Bool.{Bool, true, false, not, true≢false, false≢true}
+use mathlib.Core.Bool.{Bool, true, false, not}
 use mathlib.Core.List.{List}
+use mathlib.Core.Logic.{_↔_}
 use Prim.Native.Nat.{ℕ, _*_, _≤_, _<_}
 use native.Mathlib.Omega.{arith}
 use lib.Dec.{ltb, eqb}
@@ -11,31 +12,13 @@ use Rattle.refusals.specs.declared.Refusal.{Refusal}
 use Rattle.refusals.specs.declared.Refusal.the-variants.{Size, Length, Pair}
 use Rattle.refusals.specs.declared.Verdict.{Verdict}
 use Rattle.refusals.specs.declared.Verdict.the-variants.{Done, Refused}
+use Rattle.refusals.specs.Limits.{Within}
 use Rattle.refusals.specs.Refusal.{refuse, sized}
-use Rattle.refusals.proofs.RefusalLaw.{done-test, done-next, refuse-none, sized-within, sized-done, refused-next, refused-last}
+use Rattle.refusals.proofs.RefusalLaw.{done-test, done-next, refuse-none, sized-within, sized-next, sized-done, refused-next, refused-last}
 use Rattle.tables.specs.Monomials.{countOf}
 use Rattle.tables.specs.Words.{legalFront, Entries, Table}
-use Rattle.tables.specs.Answers.{SizeTest, longOf, long, pairedOf, paired, checkedOf, entriesVerdict, copyVerdict}
-use Rattle.tables.proofs.WordLaw.{front-of}
-
--- refusal 1
-pub size-refused : (n m : ℕ) → ((v : Verdict) → sized n m v ≡ Refused Size) → SizeTest n m false
-size-refused n m h =
-    record {
-      unknowns = λ e. absurd (false≢true e);
-      equations = λ e. absurd (false≢true e);
-      passed = λ e. absurd (false≢true e);
-      refused = λ e v. h v;
-    }
-
-pub size-passed : (n m : ℕ) → 1 ≤ n → n ≤ 20 → 1 ≤ m → m ≤ 64 → SizeTest n m true
-size-passed n m a b c d =
-    record {
-      unknowns = λ e. (a, b);
-      equations = λ e. (c, d);
-      passed = λ e v. rw (le-ltb n 1 a, le-ltb 20 n b, le-ltb m 1 c, le-ltb 64 m d);
-      refused = λ e. absurd (true≢false e);
-    }
+use Rattle.tables.specs.Answers.{longOf, long, pairedOf, paired, checkedOf, Accepted, entriesVerdict, copyVerdict}
+use Rattle.tables.proofs.WordLaw.{front-of, front-whole}
 
 -- refusal 2, of a table of N entries
 pub long-refused : (N : ℕ) (t : List ℕ) (v : Verdict) → (length t ≡ 2 * N → ⊥) → longOf N t v ≡ Refused Length
@@ -121,6 +104,16 @@ pub checked-ready : (n m : ℕ) (t : List ℕ) → checkedOf n m t ≡ Done → 
 checked-ready n m t e =
     let b = long-done (countOf n) t (paired n m t Done) (sized-done n m (long n t (paired n m t Done)) e) in
     (sized-within n m (long n t (paired n m t Done)) e .most, paired-done (countOf n) m t Done (b .0) (b .1) .0)
+
+-- accepted exactly if all is as document 01 says
+pub accepted-iff : (n m : ℕ) (t : List ℕ) → (checkedOf n m t ≡ Done) ↔ Accepted n m t
+accepted-iff n m t = (
+  (λ e. record { sizes = sized-within n m (long n t (paired n m t Done)) e; table = checked-ready n m t e .1 }),
+  (λ a.
+      let e : legalFront m t ≡ countOf n = front-whole m (countOf n) t (a .table .size) .1 (a .table .legal) in
+      sized-next n m (long n t (paired n m t Done)) (a .sizes) ∙ long-passed (countOf n) t (paired n m t Done) (a .table .size)
+      ∙ pair-passed (countOf n) m t Done (omega arith)),
+)
 
 refuse-then : (b : Bool) (s r : Refusal) (f : Verdict → Verdict) (v : Verdict) → (f Done ≡ Refused r → f v ≡ Refused r) → refuse b s (f Done) ≡ Refused r → refuse b s (f v) ≡ Refused r
 refuse-then b s r f v h e = refused-next b s r (f Done) (f v) e h

@@ -20,7 +20,7 @@ use Rattle.polynomials.proofs.SlotLaw.{slotAt, slot-two}
 use Rattle.tables.specs.Monomials.{countOf, indexOf}
 use Rattle.tables.specs.Words.{entry, polyAt, differencesOf}
 use Rattle.tables.specs.Differences.{Formulas}
-use Rattle.tables.proofs.WordLaw.{trit-lt}
+use Rattle.trits.proofs.LegalLaw.{trit-lt}
 use Rattle.tables.proofs.RoundLaw.{differences-hold}
 
 two : 1 < 3

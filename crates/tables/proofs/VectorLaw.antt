@@ -8,7 +8,7 @@ use Rattle.trits.specs.Trit.{trit, Legal, ofTrits}
 use Rattle.trits.specs.Words.{Added, Negated, Scaled}
 use Rattle.trits.proofs.ExtLaw.{trit-of, legal-of, is-of}
 use Rattle.trits.proofs.HoldLaw.{holds-is, is-holds, holds-add, holds-negate, holds-times}
-use Rattle.tables.proofs.WordLaw.{trit-lt}
+use Rattle.trits.proofs.LegalLaw.{trit-lt}
 
 -- a legal vector is that of its own trits
 pub of-self : (m : ℕ) (v : Vector) → Legal m v → v ≡ ofTrits m (trit v)

@@ -1,21 +1,17 @@
 -- A table is its entries: lists two words at a time; legal entries at the front; a legal table is the words of its own system.
 use mathlib.Core.Path.{_≡_, refl, sym, ap, ap₂, _∙_}
-use mathlib.Core.Bool.{Bool, true, false, Bool-discrete, _&&_}
+use mathlib.Core.Bool.{Bool, true, false, Bool-discrete}
 use mathlib.Core.List.{List, [], _∷_}
 use mathlib.Core.Logic.{_↔_, by-cases}
-use Prim.Native.Nat.{ℕ, zero, suc, _+_, _-_, _*_, _/_, _%_, _^_, _≤_, _<_}
+use Prim.Native.Nat.{ℕ, zero, suc, _+_, _-_, _*_, _%_, _≤_, _<_}
 use native.Mathlib.Nat.{mod-lt, mod-eq-of-lt}
 use native.Mathlib.Decide.{decLt}
 use native.Mathlib.Omega.{arith}
-use lib.Dec.{eqb}
-use lib.Bits.{bitAnd}
 use lib.ListN.{length, getD}
-use borrow.Author.Tests.{eqb-true, eq-eqb}
 use Rattle.trits.specs.declared.Vector.{Vector}
-use Rattle.trits.specs.Trit.{bit, trit, Legal, ofTrits}
+use Rattle.trits.specs.Trit.{trit, Legal, ofTrits}
 use Rattle.trits.specs.Words.{isLegal}
-use Rattle.trits.proofs.Bits.{bit-lt, and-left, and-right}
-use Rattle.trits.proofs.LegalLaw.{legal-iff}
+use Rattle.trits.proofs.LegalLaw.{legal-test, trit-lt}
 use Rattle.trits.proofs.ExtLaw.{trit-of, legal-of, is-of, of-ext}
 use Rattle.polynomials.specs.Poly.{Poly}
 use Rattle.tables.specs.Monomials.{countOf, indexOf, nth}
@@ -54,23 +50,16 @@ pub tabled-ext : (k : ℕ) (g h : ℕ → Vector) → ((i : ℕ) → i < k → g
 tabled-ext k g h e = is-tabled k h (tabled k g) (length-tabled k g) (λ i l. entry-tabled k g i l ∙ e i l)
 
 -- ---- legal entries at the front
-pub is-legal : (m : ℕ) (v : Vector) → (isLegal m v ≡ true) ↔ Legal m v
-is-legal m v = (
-  (λ t. legal-iff v m .0 (eqb-true _ _ (and-left (eqb (bitAnd (v .high) (v .low)) (v .low)) (eqb (v .high / 2 ^ m) 0) t), eqb-true _ _ (and-right (eqb (bitAnd (v .high) (v .low)) (v .low)) (eqb (v .high / 2 ^ m) 0) t))),
-  (λ l. let p = legal-iff v m .1 l in rw (eq-eqb _ _ (p .0), eq-eqb _ _ (p .1))),
-)
-
--- one pair at the front
 front-more : (m h l : ℕ) (t : List ℕ) → Legal m (record { high = h; low = l }) → legalFront m (h ∷ l ∷ t) ≡ suc (legalFront m t)
 unfolding legalFront
-front-more m h l t p = ap (pick (legalFront m t)) (is-legal m (record { high = h; low = l }) .1 p)
+front-more m h l t p = ap (pick (legalFront m t)) (legal-test m (record { high = h; low = l }) .1 p)
   where
     pick : ℕ → Bool → ℕ
     pick n b = elim b [ true ↦ suc n | false ↦ 0 ]
 
 front-stop : (m h l : ℕ) (t : List ℕ) → (Legal m (record { high = h; low = l }) → ⊥) → legalFront m (h ∷ l ∷ t) ≡ 0
 unfolding legalFront
-front-stop m h l t p = ap (pick (legalFront m t)) (not-true _ (λ e. p (is-legal m (record { high = h; low = l }) .0 e)))
+front-stop m h l t p = ap (pick (legalFront m t)) (not-true _ (λ e. p (legal-test m (record { high = h; low = l }) .0 e)))
   where
     pick : ℕ → Bool → ℕ
     pick n b = elim b [ true ↦ suc n | false ↦ 0 ]
@@ -120,9 +109,9 @@ front-of m (suc k) (x ∷ []) n = absurd (omega arith)
 front-of m zero (x ∷ y ∷ t) n = absurd (omega arith)
 front-of m (suc k) (x ∷ y ∷ t) n =
     by-cases (Bool-discrete (isLegal m (record { high = x; low = y })) true)
-    (λ e. let p = is-legal m (record { high = x; low = y }) .0 e in rw (front-more m x y t p) (front-next m k x y t (legalFront m t) p (front-of m k t (omega arith))))
+    (λ e. let p = legal-test m (record { high = x; low = y }) .0 e in rw (front-more m x y t p) (front-next m k x y t (legalFront m t) p (front-of m k t (omega arith))))
     (λ d.
-    let p : Legal m (record { high = x; low = y }) → ⊥ = λ l. d (is-legal m (record { high = x; low = y }) .1 l) in
+    let p : Legal m (record { high = x; low = y }) → ⊥ = λ l. d (legal-test m (record { high = x; low = y }) .1 l) in
     rw (front-stop m x y t p) (front-none m (suc k) x y t p))
 
 -- all k entries are legal where the front is all of them
@@ -168,10 +157,6 @@ unfolding polyAt
 nth-poly n t e =
     by-monomial n (λ k. nth n (polyAt n t e) k ≡ trit (entry t k) e) (nth-const n (polyAt n t e))
     (λ i h. nth-lin n (polyAt n t e) i h) (λ i j h l. nth-quad n (polyAt n t e) i j h l)
-
-pub trit-lt : (v : Vector) (e : ℕ) → trit v e < 3
-unfolding trit
-trit-lt v e = omega (arith, bit-lt (v .high) e, bit-lt (v .low) e)
 
 -- a legal table is the words of the system that it holds
 pub is-words : (n m : ℕ) (t : List ℕ) → Table n m t → t ≡ wordsOf n m (polyAt n t)

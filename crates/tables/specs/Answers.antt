@@ -1,27 +1,21 @@
 -- What each operation on tables answers, and what it leaves in the table that it was lent. Refusals in document 01's order.
 use mathlib.Core.Path.{_≡_}
-use mathlib.Core.Bool.{Bool, true, false, not}
+use mathlib.Core.Bool.{not}
 use mathlib.Core.List.{List, [], _∷_}
-use Prim.Native.Nat.{ℕ, _*_, _^_, _≤_}
+use Prim.Native.Nat.{ℕ, _*_, _^_}
 use lib.Dec.{eqb, ltb, leb}
 use lib.IntN.{ℤ}
 use lib.ListN.{length}
 use Rattle.refusals.specs.declared.Refusal.the-variants.{Size, Length, Pair, Range}
 use Rattle.refusals.specs.declared.Verdict.{Verdict}
 use Rattle.refusals.specs.declared.Verdict.the-variants.{Done, Refused}
+use Rattle.refusals.specs.Limits.{Within}
 use Rattle.refusals.specs.Refusal.{numberOf, codeOf, refuse, sized, after}
 use Rattle.tables.specs.declared.Evaluated.{Evaluated}
 use Rattle.tables.specs.declared.Evaluated.the-variants as evaluated
 use Rattle.trits.specs.declared.Vector.{Vector}
 use Rattle.tables.specs.Monomials.{countOf}
-use Rattle.tables.specs.Words.{legalFront, packed, differencesOf, coefficientsOf, valuesAt}
-
--- what the test of n and m says: they are in their ranges, or refusal 1 comes before all others
-pub record SizeTest (n m : ℕ) (r : Bool) : Type 0 where
-  pub unknowns : r ≡ true → (1 ≤ n) × (n ≤ 20)
-  pub equations : r ≡ true → (1 ≤ m) × (m ≤ 64)
-  pub passed : r ≡ true → (v : Verdict) → sized n m v ≡ v
-  pub refused : r ≡ false → (v : Verdict) → sized n m v ≡ Refused Size
+use Rattle.tables.specs.Words.{Table, legalFront, packed, differencesOf, coefficientsOf, valuesAt}
 
 -- refusal 2: a table of N entries, of n unknowns, is not of its exact length
 abbrev pub longOf : ℕ → List ℕ → Verdict → Verdict
@@ -40,6 +34,11 @@ paired n m t v = pairedOf (countOf n) m t v
 -- a word table by itself
 abbrev pub checkedOf : ℕ → ℕ → List ℕ → Verdict
 checkedOf n m t = sized n m (long n t (paired n m t Done))
+
+-- what it has to be, in document 01's words: n and m within their limits, of the exact length, every pair legal
+pub record Accepted (n m : ℕ) (t : List ℕ) : Type 0 where
+  pub sizes : Within n m
+  pub table : Table n m t
 
 -- signed rows of N numbers into a table of N entries, and of n unknowns
 abbrev pub rowsVerdict : ℕ → ℕ → List ℤ → List ℕ → Verdict

@@ -3,33 +3,16 @@ use crate::monomials::count;
 use crate::monomials::vector;
 use refusals::Refusal;
 use refusals::Verdict;
+use refusals::sizes_fit;
 use trits::legal;
 ghost use mathlib.Core.Path.{_≡_};
 ghost use mathlib.Core.List.{List};
 ghost use Prim.Native.Nat.{ℕ, _*_, _^_, _<_};
 ghost use lib.ListN.{length};
+ghost use Rattle.refusals.specs.Refusal.{codeOf};
 ghost use Rattle.tables.specs.Monomials.{countOf};
 ghost use Rattle.tables.specs.Words.{legalFront};
-ghost use Rattle.tables.specs.Answers.{SizeTest, checkedOf, entriesVerdict, copyVerdict};
-
-// Whether n is 1 to 20 and m is 1 to 64.
-pub fn sizes(n: u64, m: u64) -> bool
-    ensures { λ r. ⌜ SizeTest n m r ⌝ }
-{
-    if n < 1 {
-        return false;
-    }
-    if n > 20 {
-        return false;
-    }
-    if m < 1 {
-        return false;
-    }
-    if m > 64 {
-        return false;
-    }
-    true
-}
+ghost use Rattle.tables.specs.Answers.{checkedOf, entriesVerdict, copyVerdict};
 
 // How many of the entries at the front of a table are legal: all, or the number of the first that is not.
 pub(crate) fn legal_front(m: u64, entries: usize, table: &[u64]) -> usize
@@ -67,7 +50,7 @@ pub fn check_entries(m: u64, entries: usize, from: &[u64], words: usize) -> Verd
 pub fn check_copy(n: u64, m: u64, from: &[u64], words: usize) -> Verdict
     ensures { λ r. ⌜ ((to : List ℕ) → length to ≡ words → r ≡ copyVerdict n m (now (from .entry)) to) ⌝ }
 {
-    if !sizes(n, m) {
+    if !sizes_fit(n, m) {
         return Verdict::Refused(Refusal::Size);
     }
     check_entries(m, count(n as usize), from, words)
@@ -75,7 +58,8 @@ pub fn check_copy(n: u64, m: u64, from: &[u64], words: usize) -> Verdict
 
 // A table by itself: its sizes, its length, its pairs. It is judged as if it were to be written, too.
 pub fn check(n: u64, m: u64, table: &[u64]) -> Verdict
-    ensures { λ r. ⌜ r ≡ checkedOf n m (now (table .entry)) ⌝ }
+    ensures answer { λ r. ⌜ r ≡ checkedOf n m (now (table .entry)) ⌝ }
+    ensures number { λ r. ⌜ codeOf r ≡ codeOf (checkedOf n m (now (table .entry))) ⌝ }
 {
     check_copy(n, m, table, table.len())
 }

@@ -9,7 +9,6 @@ mod monomials;
 pub use checks::check;
 pub use checks::check_copy;
 pub use checks::check_entries;
-pub use checks::sizes;
 pub use monomials::count;
 pub use monomials::entry;
 pub use monomials::index;

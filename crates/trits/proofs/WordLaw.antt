@@ -11,11 +11,9 @@ use Rattle.trits.specs.Words.{addOf, negateOf, productOf, timesOf}
 use Rattle.trits.proofs.LegalLaw.{trit-lt, trit-none, legal-none}
 use Rattle.trits.proofs.SumLaw.{meets, negated, multiplied, scaled}
 use Rattle.trits.proofs.ExtLaw.{trit-ext, trit-past, is-of}
+use Rattle.trits.proofs.HoldLaw.{holds-is}
 
--- a vector of given trits is that vector, and has no others
-pub holds-is : {m : ℕ} {f : ℕ → ℕ} {r : Vector} → Holds m f r → r ≡ ofTrits m f
-holds-is {m} {f} {r} h = is-of m f r (h .legal) (h .each)
-
+-- vectors of the same trits are equal
 pub holds-unique : {m : ℕ} {f : ℕ → ℕ} {r s : Vector} → Holds m f r → Holds m f s → r ≡ s
 holds-unique h k = holds-is h ∙ sym (holds-is k)
 

@@ -1,4 +1,5 @@
-// The operations on trits, run against plain arithmetic on single trits: how often they were compared, how often they differ.
+// What no C function reaches of the crate trits, against plain arithmetic on single trits: products, multiples by any number, trits read and put
+// at any place, tests of any words. How often they were compared, how often they differ.
 use libc::STDOUT_FILENO;
 use trits::Vector;
 ghost use Prim.Native.Nat.{_<_};
@@ -9,8 +10,6 @@ struct Count {
 }
 
 enum Op {
-    Sum,
-    Negation,
     Product,
     Multiple,
     Read,
@@ -47,8 +46,6 @@ fn wanted(op: Op, x: u64, y: u64, e: u64, t: u64) -> u64
     requires { ⌜ (x < 3) × (y < 3) ⌝ }
 {
     match op {
-        Op::Sum => (x + y) % 3,
-        Op::Negation => (3 - x) % 3,
         Op::Product => x * y % 3,
         Op::Multiple => x * (t % 3) % 3,
         Op::Read => x,
@@ -104,8 +101,6 @@ fn ask(c: Count, same: bool) -> Count {
 // The operation itself.
 fn apply(op: Op, a: Vector, b: Vector, t: u64) -> Vector {
     match op {
-        Op::Sum => trits::add(a, b),
-        Op::Negation => trits::negate(a),
         Op::Product => trits::product(a, b),
         Op::Multiple => trits::times(a, t),
         Op::Read => a,
@@ -240,40 +235,6 @@ fn legals() -> Count {
     c
 }
 
-// ---- coefficients
-
-// The signed number that the byte i stands for: i, or i less 256.
-fn signed(i: u8) -> i8 {
-    if i < 128 {
-        i as i8
-    } else {
-        (i - 128) as i8 - 127 - 1
-    }
-}
-
-// The remainder of that number: i less 256 is i + 2 less 258, a multiple of 3.
-fn plain_remainder(i: u8) -> u64 {
-    let n = i as u64;
-    if n < 128 { n % 3 } else { (n + 2) % 3 }
-}
-
-// The remainder of each of the 256 coefficients.
-fn coefficients() -> Count {
-    let mut c = Count {
-        asked: 0,
-        differ: 0,
-    };
-    let mut i: u8 = 0;
-    loop {
-        let r = residues::remainder(signed(i));
-        c = ask(c, r as u64 == plain_remainder(i));
-        if i == 255 {
-            return c;
-        }
-        i += 1;
-    }
-}
-
 // ---- what is written
 
 // A line for one kind of comparison; the sum of all so far.
@@ -289,33 +250,19 @@ fn tell(name: &[u8], all: Count, c: Count) -> Count {
     }
 }
 
-// Single trits and coefficients.
-fn small(all: Count) -> Count {
-    let a = tell(b"sums ", all, pairs(Op::Sum, 9));
-    let b = tell(b"negations ", a, pairs(Op::Negation, 3));
-    let c = tell(b"products ", b, pairs(Op::Product, 9));
-    let d = tell(b"multiples ", c, pairs(Op::Multiple, 9));
-    tell(b"coefficients ", d, coefficients())
-}
-
-// Random vectors, trit by trit.
-fn large(all: Count) -> Count {
-    let a = tell(b"sums in words ", all, words(Op::Sum));
-    let b = tell(b"negations in words ", a, words(Op::Negation));
+fn main() {
+    let none = Count {
+        asked: 0,
+        differ: 0,
+    };
+    let a = tell(b"products ", none, pairs(Op::Product, 9));
+    let b = tell(b"multiples ", a, pairs(Op::Multiple, 9));
     let c = tell(b"products in words ", b, words(Op::Product));
     let d = tell(b"multiples in words ", c, words(Op::Multiple));
     let e = tell(b"trits read ", d, words(Op::Read));
-    tell(b"trits put ", e, words(Op::Put))
-}
-
-fn main() {
-    let a = small(Count {
-        asked: 0,
-        differ: 0,
-    });
-    let b = large(a);
-    let c = tell(b"zero tests ", b, zeros());
-    let all = tell(b"legality tests ", c, legals());
+    let f = tell(b"trits put ", e, words(Op::Put));
+    let g = tell(b"zero tests ", f, zeros());
+    let all = tell(b"legality tests ", g, legals());
     if all.differ == 0 {
         io::write_all(STDOUT_FILENO, b"all ");
         io::print_decimal(STDOUT_FILENO, all.asked);

@@ -13,7 +13,8 @@ use Rattle.refusals.specs.declared.Refusal.the-variants as refusal
 use Rattle.refusals.specs.declared.Verdict.{Verdict}
 use Rattle.refusals.specs.declared.Verdict.the-variants.{Done, Refused}
 use Rattle.refusals.specs.Refusal.{numberOf, codeOf, refuse, sized, after}
-use Rattle.refusals.proofs.RefusalLaw.{done-test, done-next, refuse-none, Within, sized-within, sized-next, sized-done}
+use Rattle.refusals.proofs.RefusalLaw.{done-test, done-next, refuse-none, sized-within, sized-next, sized-done}
+use Rattle.refusals.specs.Limits.{Within}
 use Rattle.tables.specs.Monomials.{countOf}
 use Rattle.walks.specs.declared.Report.{Report}
 use Rattle.walks.specs.Calls.{reportOf, pointsIn, zerosIn}

@@ -36,7 +36,7 @@ power-requires c κs = search needs
 returns : tie.Need-returns
 returns c =
     let a = c .before .before .before .before .before .before .before .args in
-    let d = sym (c .before .before .before .before .before .check .ensures) ∙ c .before .before .before .enum-told .given .1 in
+    let d = sym (c .before .before .before .before .before .check .ensures .0) ∙ c .before .before .before .enum-told .given .1 in
     let r = checked-ready (a .n) (a .m) (a .coefficients .now) d in
     let p = c .before .before .power .ensures .0 (omega (arith, r .0)) in
     let e = sym (value-outside (a .n) (a .m) (a .coefficients .now) (a .x .0) d (omega (arith, p, c .if1 .taken))) in
@@ -48,20 +48,20 @@ digits-requires c κs = search needs
 value-at-requires : tie.Need-value-at-requires
 value-at-requires c κs =
     let a = c .before .before .before .before .before .before .before .before .before .args in
-    let r = checked-ready (a .n) (a .m) (a .coefficients .now) (sym (c .before .before .before .before .before .before .before .check .ensures) ∙ c .before .before .before .before .before .enum-told .given .1) in
+    let r = checked-ready (a .n) (a .m) (a .coefficients .now) (sym (c .before .before .before .before .before .before .before .check .ensures .0) ∙ c .before .before .before .before .before .enum-told .given .1) in
     (r .0, r .1 .size)
 
 returns-2 : tie.Need-returns-2
 returns-2 c =
     let a = c .before .before .before .before .before .args in
     let v = c .before .verdict .given in
-    let e = sym (value-refused (a .n) (a .m) (a .coefficients .now) (a .x .0) (v .0 .0) (sym (c .before .before .before .check .ensures) ∙ v .1)) in
+    let e = sym (value-refused (a .n) (a .m) (a .coefficients .now) (a .x .0) (v .0 .0) (sym (c .before .before .before .check .ensures .0) ∙ v .1)) in
     (e, tells-of (a .n) (a .m) (a .coefficients .now) (a .x .0) _ e)
 
 returns-3 : tie.Need-returns-3
 returns-3 c =
     let a = c .before .before .before .before .before .before .before .before .before .before .args in
-    let d = sym (c .before .before .before .before .before .before .before .before .check .ensures) ∙ c .before .before .before .before .before .before .enum-told .given .1 in
+    let d = sym (c .before .before .before .before .before .before .before .before .check .ensures .0) ∙ c .before .before .before .before .before .before .enum-told .given .1 in
     let r = checked-ready (a .n) (a .m) (a .coefficients .now) d in
     let p = c .before .before .before .before .before .power .ensures .0 (omega (arith, r .0)) in
     let e = ap Value (c .value-at .ensures (a .m) (r .1) ∙ values-are (a .n) (a .m) (a .coefficients .now) (a .x .0) (λ k. getD (c .before .before .digits .result) k 0) (λ k h. c .before .before .digits .ensures k (omega (arith, r .0))))

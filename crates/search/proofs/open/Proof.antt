@@ -28,13 +28,13 @@ enum-told c = search needs
 
 -- src/lib.rt:51:26
 open-checked-requires : tie.Need-open-checked-requires
-open-checked-requires c κs = sym (c .before .before .check .ensures) ∙ c .enum-told .given .1
+open-checked-requires c κs = sym (c .before .before .check .ensures .0) ∙ c .enum-told .given .1
 
 -- src/lib.rt:45:1
 returns : tie.Need-returns
 returns c =
     let s = c .before .before .before .before .before .before in
-    c .refused .ensures ∙ open-refused (s .args .n) (s .args .m) (s .args .table .now) (s .args .place .0) _ (sym (c .before .before .before .before .check .ensures) ∙ c .before .before .verdict .given .1)
+    c .refused .ensures ∙ open-refused (s .args .n) (s .args .m) (s .args .table .now) (s .args .place .0) _ (sym (c .before .before .before .before .check .ensures .0) ∙ c .before .before .verdict .given .1)
 
 -- src/lib.rt:45:1
 returns-2 : tie.Need-returns-2

@@ -9,14 +9,8 @@ use Rattle.trits_run.proofs.wanted.Tie as tie
 enum-told : tie.Need-enum-told
 enum-told c = search needs
 
-add-result : tie.Need-add-result
-add-result c = search needs
-
 enum-told-2 : tie.Need-enum-told-2
 enum-told-2 c = search needs
-
-sub-result : tie.Need-sub-result
-sub-result c = search needs
 
 enum-told-3 : tie.Need-enum-told-3
 enum-told-3 c = search needs
@@ -38,12 +32,6 @@ mul-result-2 c =
     let k : a .t % 3 ≤ 2 = omega arith in
     omega (arith, mul-le-mul l k)
 
-enum-told-5 : tie.Need-enum-told-5
-enum-told-5 c = search needs
-
-enum-told-6 : tie.Need-enum-told-6
-enum-told-6 c = search needs
-
 placed-requires : tie.Need-placed-requires
 placed-requires c κs = search needs
 
@@ -59,30 +47,18 @@ returns-3 c = search needs
 returns-4 : tie.Need-returns-4
 returns-4 c = search needs
 
-returns-5 : tie.Need-returns-5
-returns-5 c = search needs
-
-returns-6 : tie.Need-returns-6
-returns-6 c = search needs
-
 pub wanted-spec : {M : Type 1} → statement M
 wanted-spec =
     tie.close
     (tie.spec
     enum-told
-    add-result
-    enum-told-2
-    sub-result
-    enum-told-3
     mul-result
-    enum-told-4
+    enum-told-2
     mul-result-2
-    enum-told-5
-    enum-told-6
+    enum-told-3
+    enum-told-4
     placed-requires
     returns
     returns-2
     returns-3
-    returns-4
-    returns-5
-    returns-6)
+    returns-4)

@@ -2,38 +2,37 @@
 use mathlib.Core.Path.{sym}
 use Prim.Native.Nat.{_^_, _<_, _≤_}
 use native.Mathlib.Omega.{arith}
-use Rattle.gray.proofs.AnswerLaw.{size-low, size-high, range-high, range-so}
+use borrow.Author.Tests.{not-true, not-false}
+use Rattle.refusals.proofs.RefusalLaw.{said-no, unknowns-not}
+use Rattle.gray.proofs.AnswerLaw.{range-high, range-so}
 use borrow.Author.Needs.{needs}
 use Rattle.gray.proofs.map.convertible.Statement.{statement}
 use Rattle.gray.proofs.map.convertible.Tie as tie
 
--- src/map.rt:56:9
+unknowns-fit-requires : tie.Need-unknowns-fit-requires
+unknowns-fit-requires c κs = search needs
+
 returns : tie.Need-returns
-returns c = sym (size-low _ _ (c .if1 .taken))
+returns c = sym (unknowns-not _ _ (said-no _ (c .before .unknowns-fit .ensures) (not-true _ (c .if1 .taken))))
 
--- src/map.rt:59:9
-returns-2 : tie.Need-returns-2
-returns-2 c = sym (size-high _ _ (c .if2 .taken))
-
--- src/map.rt:61:9
 power-requires : tie.Need-power-requires
 power-requires c κs = search needs
 
--- src/map.rt:63:9
+returns-2 : tie.Need-returns-2
+returns-2 c =
+    let a = c .before .before .before .before .args in
+    let w = c .before .before .before .unknowns-fit .ensures .0 (not-false _ (c .before .before .if1 .left)) in
+    let e = c .before .power .ensures .0 (omega (arith, w .most)) in
+    let r : 3 ^ a .n ≤ a .x = omega arith in
+    sym (range-high (a .n) (a .x) w r)
+
 returns-3 : tie.Need-returns-3
 returns-3 c =
     let a = c .before .before .before .before .args in
-    let e = c .before .power .ensures .0 (omega arith) in
-    let r : 3 ^ a .n ≤ a .x = omega arith in
-    sym (range-high (a .n) (a .x) (omega arith) (omega arith) r)
-
--- src/map.rt:52:1
-returns-4 : tie.Need-returns-4
-returns-4 c =
-    let a = c .before .before .before .before .args in
-    let e = c .before .power .ensures .0 (omega arith) in
+    let w = c .before .before .before .unknowns-fit .ensures .0 (not-false _ (c .before .before .if1 .left)) in
+    let e = c .before .power .ensures .0 (omega (arith, w .most)) in
     let r : a .x < 3 ^ a .n = omega arith in
-    sym (range-so (a .n) (a .x) (omega arith) (omega arith) r)
+    sym (range-so (a .n) (a .x) w r)
 
 pub convertible-spec : {M : Type 1} → statement M
-convertible-spec = tie.close (tie.spec returns returns-2 power-requires returns-3 returns-4)
+convertible-spec = tie.close (tie.spec unknowns-fit-requires returns power-requires returns-2 returns-3)

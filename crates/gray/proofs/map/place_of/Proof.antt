@@ -22,7 +22,7 @@ enum-told c = search needs
 place-at-requires : tie.Need-place-at-requires
 place-at-requires c κs =
     let a = c .before .before .before .args in
-    done-so (a .n) (a .x .0) (sym (c .before .before .convertible .ensures) ∙ c .enum-told .given .1) .1
+    done-so (a .n) (a .x .0) (sym (c .before .before .convertible .ensures) ∙ c .enum-told .given .1) .0 .most
 
 -- src/map.rt:84:1
 returns : tie.Need-returns

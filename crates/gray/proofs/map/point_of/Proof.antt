@@ -22,7 +22,7 @@ enum-told c = search needs
 point-at-requires : tie.Need-point-at-requires
 point-at-requires c κs =
     let a = c .before .before .before .args in
-    done-so (a .n) (a .p .0) (sym (c .before .before .convertible .ensures) ∙ c .enum-told .given .1) .1
+    done-so (a .n) (a .p .0) (sym (c .before .before .convertible .ensures) ∙ c .enum-told .given .1) .0 .most
 
 -- src/map.rt:69:1
 returns : tie.Need-returns

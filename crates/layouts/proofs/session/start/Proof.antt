@@ -26,7 +26,7 @@ returns c =
     let a = s .args in
     let d = c .before .before .before .before .before .before .before .before .before .differences in
     let p = c .before .before .put-head in
-    started (a .n) (a .m) (a .words .now) (a .table .now) (s .pre .0) (d .last .1 .1 .1 .0) (table-is (a .n) (a .m) (a .words .now) (a .table .now) (s .pre .0) _ (d .ensures .1))
+    started (a .n) (a .m) (a .words .now) (a .table .now) (s .pre .0) (d .last .1 .1 .1 .0) (table-is (a .n) (a .m) (a .words .now) (a .table .now) (s .pre .0) _ (d .ensures .1 .0))
     (c .before .before .before .before .before .«open» .result) (p .last .0) (p .result) (c .before .before .before .before .before .«open» .ensures) (omega (arith, p .ensures .1, p .ensures .0 .size, s .pre .1)) (p .ensures .0 .front)
 
 pub start-spec : {M : Type 1} → statement M

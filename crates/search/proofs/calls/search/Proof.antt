@@ -28,13 +28,13 @@ enum-told c = search needs
 
 -- src/calls.rt:130:36
 search-checked-requires : tie.Need-search-checked-requires
-search-checked-requires c κs = sym (c .before .before .before .check .ensures) ∙ c .before .enum-told .given .1
+search-checked-requires c κs = sym (c .before .before .before .check .ensures .0) ∙ c .before .enum-told .given .1
 
 -- src/calls.rt:123:1
 returns : tie.Need-returns
 returns c =
     let s = c .before .before .before .before .before .before .before in
-    let a = away-table (s .args .n) (s .args .m) (s .args .table .now) (s .args .r) (s .args .budget) (s .args .list .now) _ (sym (c .before .before .before .before .check .ensures) ∙ c .before .before .verdict .given .1) in
+    let a = away-table (s .args .n) (s .args .m) (s .args .table .now) (s .args .r) (s .args .budget) (s .args .list .now) _ (sym (c .before .before .before .before .check .ensures .0) ∙ c .before .before .verdict .given .1) in
     let e = c .turned-away .ensures ∙ a .0 in
     (e, a .1, tells-of (s .args .n) (s .args .m) (s .args .table .now) (s .args .r) (s .args .budget) (s .args .list .now) _ e)
 

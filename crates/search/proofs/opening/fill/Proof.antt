@@ -54,7 +54,7 @@ returns c =
     let m = s .args .m in
     let t = s .args .table .now in
     opened-from n m t _ (s .args .place) _ _ _ (λ k. getD (c .before .before .before .before .before .before .before .before .before .digits .result) k 0)
-    (coefficients-are n m t (s .pre .0) (s .args .c .now) _ (s .pre .2) (c .before .before .before .before .before .before .before .coefficients .ensures .1))
+    (coefficients-are n m t (s .pre .0) (s .args .c .now) _ (s .pre .2) (c .before .before .before .before .before .before .before .coefficients .ensures .1 .0))
     (c .before .before .before .before .before .before .before .before .before .before .latest-place .ensures) (c .before .before .before .before .before .before .before .before .before .digits .ensures) (c .before .before .value-at .ensures) (c .slots .ensures)
 
 pub fill-spec : {M : Type 1} → statement M

@@ -1,6 +1,7 @@
 -- `tables::checks::check` meets its contract.
-use mathlib.Core.Path.{refl, _∙_}
+use mathlib.Core.Path.{refl, ap, _∙_}
 use borrow.Author.Needs.{needs}
+use Rattle.refusals.specs.Refusal.{codeOf}
 use Rattle.tables.proofs.AnswerLaw.{copy-self}
 use Rattle.tables.proofs.checks.check.Statement.{statement}
 use Rattle.tables.proofs.checks.check.Tie as tie
@@ -9,7 +10,10 @@ check-copy-requires : tie.Need-check-copy-requires
 check-copy-requires c κs = search needs
 
 returns : tie.Need-returns
-returns c = let a = c .before .before .args in c .check-copy .ensures (a .table .now) refl ∙ copy-self (a .n) (a .m) (a .table .now)
+returns c =
+    let a = c .before .before .args in
+    let e = c .check-copy .ensures (a .table .now) refl ∙ copy-self (a .n) (a .m) (a .table .now) in
+    (e, ap codeOf e)
 
 pub check-spec : {M : Type 1} → statement M
 check-spec = tie.close (tie.spec check-copy-requires returns)

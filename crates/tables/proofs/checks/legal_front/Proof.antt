@@ -23,19 +23,15 @@ Inv-loop m entries table k₀ k = (k ≤ entries) × ((j : ℕ) → j < k → Le
 abbrev μ-loop : tie.MeasureT-loop
 μ-loop m entries table k₀ k = entries - k
 
--- src/checks.rt:38:5
 loop-holds : tie.Need-loop-holds Inv-loop μ-loop
 loop-holds c = (omega arith, λ j h. absurd (omega arith))
 
--- src/checks.rt:39:19
 vector-requires : tie.Need-vector-requires Inv-loop μ-loop
 vector-requires c κs = search needs
 
--- src/checks.rt:39:13
 legal-requires : tie.Need-legal-requires Inv-loop μ-loop
 legal-requires c κs = search needs
 
--- src/checks.rt:40:13
 returns : tie.Need-returns Inv-loop μ-loop
 returns c =
     let a = c .before .before .before .before .before .before .args in
@@ -45,15 +41,12 @@ returns c =
     sym (front-is (a .m) (a .table .now) (a .entries) (l .k) (c .before .before .before .before .before .before .pre) (l .inv .0) (l .inv .1)
     (λ h p. false≢true (sym f ∙ c .before .legal .ensures .legal .1 (rw v p))))
 
--- src/checks.rt:42:9
 add-k : tie.Need-add-k Inv-loop μ-loop
 add-k c = search needs
 
--- src/checks.rt:38:5
 loop-less : tie.Need-loop-less Inv-loop μ-loop
 loop-less c = search needs
 
--- src/checks.rt:38:5
 loop-again : tie.Need-loop-again Inv-loop μ-loop
 loop-again c =
     let a = c .before .before .before .before .before .before .args in
@@ -61,7 +54,6 @@ loop-again c =
     let v : c .before .before .vector .result ≡ entry (a .table .now) (l .k) = c .before .before .vector .ensures in
     (omega arith, below-more _ (l .k) (l .inv .1) (rw v at (c .before .legal .ensures .legal .0 (not-false _ (c .if1 .left)))))
 
--- src/checks.rt:33:1
 returns-2 : tie.Need-returns-2 Inv-loop μ-loop
 returns-2 c =
     let a = c .before .before .before .args in

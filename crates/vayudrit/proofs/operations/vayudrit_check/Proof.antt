@@ -19,7 +19,7 @@ code-requires c κs = search needs
 
 -- src/operations.rt:29:1
 returns : tie.Need-returns
-returns c = c .code .ensures ∙ ap codeOf (c .before .check .ensures)
+returns c = c .code .ensures ∙ ap codeOf (c .before .check .ensures .0)
 
 pub vayudrit-check-spec : {M : Type 1} → statement M
 vayudrit-check-spec = tie.close (tie.spec check-requires code-requires returns)

@@ -23,7 +23,7 @@ same-length c = search needs
 
 -- src/operations.rt:53:1
 returns : tie.Need-returns
-returns c = (c .code .ensures ∙ ap codeOf (c .before .before .before .coefficients .ensures .0), c .before .before .before .coefficients .ensures .1)
+returns c = (c .code .ensures ∙ ap codeOf (c .before .before .before .coefficients .ensures .0), c .before .before .before .coefficients .ensures .1 .0)
 
 pub vayudrit-coefficients-spec : {M : Type 1} → statement M
 vayudrit-coefficients-spec =

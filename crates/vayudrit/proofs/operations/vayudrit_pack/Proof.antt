@@ -23,7 +23,7 @@ same-length c = search needs
 
 -- src/operations.rt:19:1
 returns : tie.Need-returns
-returns c = (c .code .ensures ∙ ap codeOf (c .before .before .before .pack .ensures .0), c .before .before .before .pack .ensures .1)
+returns c = (c .code .ensures ∙ ap codeOf (c .before .before .before .pack .ensures .0), c .before .before .before .pack .ensures .1 .0)
 
 pub vayudrit-pack-spec : {M : Type 1} → statement M
 vayudrit-pack-spec = tie.close (tie.spec pack-requires code-requires same-length returns)
