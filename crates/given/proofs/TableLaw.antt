@@ -14,6 +14,10 @@ use Rattle.tables.specs.Answers.{long, paired}
 use Rattle.tables.proofs.AnswerLaw.{long-done, paired-done, accepted-iff, checked-refused, checked-passed}
 use Rattle.given.specs.Given.{Given, quadratic, tableVerdict, Checked}
 
+-- powers of three up to 3 ^ 20
+pub power-le : (b : ℕ) → b ≤ 20 → 3 ^ b ≤ 3 ^ 20
+power-le b h = pow-le-pow-right {n = 3} (omega arith) {i = b} {j = 20} h
+
 module _ (g : Given) where
   -- a checked table passes every question that is asked of it, and one that is refused is refused whatever is asked next
   pub checked-next : (v : Verdict) → Checked g → tableVerdict g v ≡ v
@@ -41,7 +45,7 @@ module _ (g : Given) where
 
   -- places fit 32 bits
   pub power-small : Checked g → 3 ^ g .n ≤ 3 ^ 20
-  power-small ok = pow-le-pow-right {n = 3} (omega arith) {i = g .n} {j = 20} (within ok .most)
+  power-small ok = power-le (g .n) (within ok .most)
 
 -- the words of a table of degree 2: of the exact length, every pair legal
 pub table-of : (n m : ℕ) (t : List ℕ) → Checked (quadratic n m t) → Table n m t
