@@ -6,6 +6,7 @@ ghost use lib.ListN.{length};
 ghost use Rattle.refusals.specs.Refusal.{codeOf};
 ghost use Rattle.tables.specs.Answers.{checkedOf, packVerdict, packAfter, copyVerdict, differencesAfter, coefficientsAfter};
 ghost use Rattle.reader.specs.Answers.{wordsAfter, callOf, callCode, toldAfter};
+ghost use Rattle.given.specs.Given.{quadratic};
 ghost use Rattle.number_calls.specs.Call.{convertCall, pointAfter, placeAfter, balancedAfter, unbalancedCall, unbalancedAfter};
 ghost use Rattle.table_calls.specs.Call.{evaluateCall, evaluateAfter};
 ghost use Rattle.record_calls.specs.Call.{openCall, openAfter};
@@ -116,8 +117,8 @@ pub extern "C" fn vayudrit_open(
     place: u64,
     record: &mut [u64],
 ) -> u64
-    ensures { λ c. ⌜ (c ≡ codeOf (openCall n m (now (table .entry)) place (now («record» .entry))))
-        × (now («record» .exit) ≡ openAfter n m (now (table .entry)) place (now («record» .entry))) ⌝ }
+    ensures { λ c. ⌜ (c ≡ codeOf (openCall (quadratic n m (now (table .entry))) place (now («record» .entry))))
+        × (now («record» .exit) ≡ openAfter (quadratic n m (now (table .entry))) place (now («record» .entry))) ⌝ }
 {
     record_calls::open(n, m, table, place, record)
 }
@@ -133,10 +134,10 @@ pub extern "C" fn vayudrit_search(
     list: &mut [u8],
     answer: &mut [u8],
 ) -> u64
-    ensures { λ c. ⌜ (c ≡ codeOf (callVerdict n m (now (table .entry)) (now («record» .entry)) budget (now (list .entry)) (now (answer .entry))))
-        × (now («record» .exit) ≡ recordBytesAfter n m (now (table .entry)) (now («record» .entry)) budget (now (list .entry)) (now (answer .entry)))
-        × (now (list .exit) ≡ listBytesAfter n m (now (table .entry)) (now («record» .entry)) budget (now (list .entry)) (now (answer .entry)))
-        × (now (answer .exit) ≡ answerBytesAfter n m (now (table .entry)) (now («record» .entry)) budget (now (list .entry)) (now (answer .entry))) ⌝ }
+    ensures { λ c. ⌜ (c ≡ codeOf (callVerdict (quadratic n m (now (table .entry))) (now («record» .entry)) budget (now (list .entry)) (now (answer .entry))))
+        × (now («record» .exit) ≡ recordBytesAfter (quadratic n m (now (table .entry))) (now («record» .entry)) budget (now (list .entry)) (now (answer .entry)))
+        × (now (list .exit) ≡ listBytesAfter (quadratic n m (now (table .entry))) (now («record» .entry)) budget (now (list .entry)) (now (answer .entry)))
+        × (now (answer .exit) ≡ answerBytesAfter (quadratic n m (now (table .entry))) (now («record» .entry)) budget (now (list .entry)) (now (answer .entry))) ⌝ }
 {
     search_calls::search(n, m, table, record, budget, list, answer)
 }

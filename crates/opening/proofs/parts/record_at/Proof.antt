@@ -2,9 +2,9 @@
 use mathlib.Core.Path.{_≡_, refl, sym, ap, _∙_}
 use native.Mathlib.Omega.{arith}
 use lib.ListN.{length, length-take}
+use Rattle.tables.proofs.IndexLaw.{count-le}
 use Rattle.given.specs.Given.{quadratic}
 use Rattle.given.proofs.TableLaw.{within, table-of}
-use Rattle.opening.proofs.OpenLaw.{count-le}
 use borrow.Author.Needs.{needs}
 use Rattle.opening.proofs.parts.record_at.Statement.{statement}
 use Rattle.opening.proofs.parts.record_at.Tie as tie
