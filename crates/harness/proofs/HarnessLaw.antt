@@ -4,7 +4,7 @@ use mathlib.Core.Bool.{Bool, true, false}
 use mathlib.Core.Logic.{_⊎_, inl, inr}
 use mathlib.Core.Option.{Option, none, some}
 use mathlib.Core.List.{List, [], _∷_, map}
-use Prim.Native.Nat.{ℕ, _+_, _*_, _/_, _%_, _^_, _≤_, _<_}
+use Prim.Native.Nat.{ℕ, _+_, _*_, _%_, _^_, _≤_, _<_}
 use native.Mathlib.Nat.{one-le-pow, add-zero}
 use native.Mathlib.Omega.{arith}
 use lib.Dec.{eqb}
@@ -34,9 +34,8 @@ use Rattle.search.specs.declared.Outcome.{Outcome}
 use Rattle.search.specs.Search.{trailBehind, searchVerdict, ranOf, outcomeFrom, answerValues}
 use Rattle.search.proofs.VerdictLaw.{asked, verdict-opened}
 use Rattle.search.proofs.TrailLaw.{end-is, entry-lt, cost-le, place-opened}
-use Rattle.demand.specs.Demand.{CommonZero}
 use Rattle.demand.proofs.DemandLaw.{trans-iff, distinct, cost-all, zero-iff}
-use Rattle.lists.specs.Listed.{foundIn, outcomeIn, listIn}
+use Rattle.lists.specs.Listed.{foundIn, listIn}
 use Rattle.wire.specs.Wire.{recordIn, recordWords}
 use Rattle.wire.proofs.SmallLaw.{record-bytes, record-back}
 use Rattle.search_calls.specs.Call.{inWords, callVerdict, answerBytesAfter, doneOf}

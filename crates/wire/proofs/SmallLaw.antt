@@ -12,7 +12,6 @@ use Rattle.trits.proofs.LegalLaw.{shr-none, legal-none, legal-more}
 use Rattle.trits.proofs.ExtLaw.{legal-of}
 use Rattle.codec.specs.Codec.{wordsOf, bytesFrom, AllBelow}
 use Rattle.codec.proofs.CodecLaw.{words-bytes, length-from}
-use Rattle.opening.specs.declared.Record.{Record}
 use Rattle.given.specs.Given.{Given}
 use Rattle.opening.specs.Opened.{valueAt, slotOr, slotAt, slotsAt, openedAt}
 use Rattle.opening.proofs.SystemLaw.{slots-length}
