@@ -1,4 +1,4 @@
--- `layouts::drive` keeps its contract and ends: the bytes are counted before each call, and each call but the last examines points.
+-- `sending::drive` keeps its contract and ends: the bytes are counted before each call, and each call but the last examines points.
 use mathlib.Core.Path.{_≡_, refl, sym, _∙_}
 use Prim.Native.Nat.{_+_, _-_, _*_, _^_, _≤_}
 use lib.ListN.{length}
@@ -6,9 +6,9 @@ use lib.Seq.{length-take-le}
 use native.Mathlib.Omega.{arith}
 use borrow.Author.Needs.{needs}
 use Rattle.planner.proofs.DriveLaw.{callsLeft, falls}
-use Rattle.layouts.proofs.EndLaw.{Counted, counted-first, sum-fits, short, counted-next, all-taken}
-use Rattle.layouts.proofs.drive.Statement.{statement}
-use Rattle.layouts.proofs.drive.Tie as tie
+use Rattle.sending.proofs.EndLaw.{Counted, counted-first, sum-fits, short, counted-next, all-taken}
+use Rattle.sending.proofs.drive.Statement.{statement}
+use Rattle.sending.proofs.drive.Tie as tie
 
 abbrev Inv-loop : tie.InvT-loop
 Inv-loop table list₀ text₀ first screen s₀ sent₀ shown₀ list text s sent shown =

@@ -1,12 +1,12 @@
--- `layouts::concluded` keeps its contract.
+-- `sending::concluded` keeps its contract.
 use mathlib.Core.Path.{sym, ap}
 use mathlib.Core.Bool.{Bool}
 use borrow.Author.Tests.{not-true, not-false}
-use Rattle.layouts.specs.Ending.{toldIf}
-use Rattle.layouts.proofs.EndLaw.{concludes}
+use Rattle.sending.specs.Ending.{toldIf}
+use Rattle.sending.proofs.EndLaw.{concludes}
 use borrow.Author.Needs.{needs}
-use Rattle.layouts.proofs.concluded.Statement.{statement}
-use Rattle.layouts.proofs.concluded.Tie as tie
+use Rattle.sending.proofs.concluded.Statement.{statement}
+use Rattle.sending.proofs.concluded.Tie as tie
 
 finish-requires : tie.Need-finish-requires
 finish-requires c κs = search needs

@@ -1,10 +1,10 @@
--- `layouts::walk_graph` keeps its contract.
+-- `sending::walk_graph` keeps its contract.
 use native.Mathlib.Omega.{arith}
 use borrow.Author.Tests.{not-false}
-use Rattle.layouts.proofs.EndLaw.{none-walked, walked}
+use Rattle.sending.proofs.EndLaw.{none-walked, walked}
 use borrow.Author.Needs.{needs}
-use Rattle.layouts.proofs.walk_graph.Statement.{statement}
-use Rattle.layouts.proofs.walk_graph.Tie as tie
+use Rattle.sending.proofs.walk_graph.Statement.{statement}
+use Rattle.sending.proofs.walk_graph.Tie as tie
 
 look-requires : tie.Need-look-requires
 look-requires c κs = search needs

@@ -1,14 +1,14 @@
--- `layouts::run` keeps its contract: the line is told exactly if the whole output was taken.
+-- `sending::run` keeps its contract: the line is told exactly if the whole output was taken.
 use mathlib.Core.Path.{_≡_, sym}
 use Prim.Native.Nat.{_≤_}
 use native.Mathlib.Omega.{arith}
 use lib.Seq.{length-take-le}
 use borrow.Author.Tests.{not-true, not-false}
 use Rattle.planner.proofs.DriveLaw.{unknowns}
-use Rattle.layouts.proofs.EndLaw.{none-told, ends-refused, ends-graph}
+use Rattle.sending.proofs.EndLaw.{none-told, ends-refused, ends-graph}
 use borrow.Author.Needs.{needs}
-use Rattle.layouts.proofs.run.Statement.{statement}
-use Rattle.layouts.proofs.run.Tie as tie
+use Rattle.sending.proofs.run.Statement.{statement}
+use Rattle.sending.proofs.run.Tie as tie
 
 begin-requires : tie.Need-begin-requires
 begin-requires c κs = search needs

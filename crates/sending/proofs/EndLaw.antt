@@ -12,9 +12,9 @@ use Rattle.planner.specs.declared.Session.{Session}
 use Rattle.planner.specs.Output.{outputOf, endedLine, toldOf, leftIf, leftOf, Standing, toldWhen, Begun, Went}
 use Rattle.texts.specs.Text.{Put}
 use Rattle.tables.specs.Monomials.{countOf}
-use Rattle.layouts.specs.declared.Driven.{Driven}
-use Rattle.layouts.specs.declared.Ending.{Ending}
-use Rattle.layouts.specs.Ending.{Ends, Drives, toldIf, Concludes, Walks}
+use Rattle.sending.specs.declared.Driven.{Driven}
+use Rattle.sending.specs.declared.Ending.{Ending}
+use Rattle.sending.specs.Ending.{Ends, Drives, toldIf, Concludes, Walks}
 use Rattle.planner.proofs.DriveLaw.{callsLeft, calls-most, falls, left-none}
 
 -- of the walk that began at g, with `first` bytes taken before it, `sent` bytes are taken at s; a call sends at most 65,536

@@ -8,8 +8,8 @@ use lib.Dec.{eqb}
 use lib.ListN.{length, take}
 use Rattle.planner.specs.declared.Session.{Session}
 use Rattle.planner.specs.Output.{outputOf, endedLine, toldOf, leftIf, leftOf}
-use Rattle.layouts.specs.declared.Driven.{Driven}
-use Rattle.layouts.specs.declared.Ending.{Ending}
+use Rattle.sending.specs.declared.Driven.{Driven}
+use Rattle.sending.specs.declared.Ending.{Ending}
 
 -- the bytes of the text that is lent to each call
 abbrev pub textBytes : ℕ
