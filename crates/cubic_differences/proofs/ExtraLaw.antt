@@ -17,7 +17,7 @@ use Rattle.cubics.proofs.LinearLaw.{cubic-lin, cubic-quad}
 use Rattle.cubics.proofs.CoefficientLaw.{coef-single, coef-same, coef-pair}
 use Rattle.cubics.proofs.BracketLaw.{triplesOf, all-same, all-other, bracket, t-is, lowT}
 use Rattle.cubics.proofs.AlikeLaw.{Agree, prev-like, high-like, low-like}
-use Rattle.cubics.proofs.ExactLaw.{pair-place}
+use Rattle.held.proofs.ExactLaw.{pair-place}
 use Rattle.brackets.specs.Brackets.{extraSingle, extraPair}
 use Rattle.brackets.proofs.BracketLaw.{pair-same, pair-other}
 

@@ -29,7 +29,7 @@ use Rattle.cubics.proofs.LinearLaw.{cubic-lin, cubic-quad}
 use Rattle.cubics.proofs.BracketLaw.{triplesOf, all-same, all-other, entry-two, entry-all}
 use Rattle.cubics.proofs.AlikeLaw.{Agree, table-like}
 use Rattle.cubics.proofs.OneSystemLaw.{entry-const}
-use Rattle.cubics.proofs.ExactLaw.{pair-place, triple-same, triple-over}
+use Rattle.held.proofs.ExactLaw.{pair-place, triple-same, triple-over}
 use Rattle.cubic_tables.specs.Order.{cubicCount, tripleIndex}
 use Rattle.brackets.specs.Brackets.{bracketsAt, cellOf, extraSingle, extraPair}
 use Rattle.cubic_tables.specs.Words.{CubicTable, cubicAt, tableCubic, cubicDifferences, cubicCoefficients}

@@ -20,6 +20,7 @@ ghost use mathlib.Core.List.{List};
 ghost use Prim.Native.Nat.{ℕ, _+_, _*_, _<_, _≤_};
 ghost use lib.ListN.{length};
 ghost use Rattle.refusals.specs.Limits.{mostUnknowns};
+ghost use Rattle.refusals.specs.Refusal.{codeOf};
 ghost use Rattle.trits.specs.Trit.{Legal, Holds};
 ghost use Rattle.tables.specs.Monomials.{countOf, indexOf};
 ghost use Rattle.tables.specs.Words.{entry, Written};
@@ -194,8 +195,9 @@ pub fn coefficients_into(from: &[u64], to: &mut [u64], n: usize)
 
 // The table of differences of a cubic coefficient table: `table` is written whole, or on a refusal left as it was.
 pub fn differences(n: u64, m: u64, coefficients: &[u64], table: &mut [u64]) -> Verdict
-    ensures { λ r. ⌜ r ≡ cubicCopy n m (now (coefficients .entry)) (now (table .entry)) ⌝ }
+    ensures answer { λ r. ⌜ r ≡ cubicCopy n m (now (coefficients .entry)) (now (table .entry)) ⌝ }
     ensures left { λ r. ⌜ now (table .exit) ≡ cubicDifferencesAfter n m (now (coefficients .entry)) (now (table .entry)) ⌝ }
+    ensures number { λ r. ⌜ codeOf r ≡ codeOf (cubicCopy n m (now (coefficients .entry)) (now (table .entry))) ⌝ }
 {
     let verdict = check_copy(n, m, coefficients, table.len());
     if let Verdict::Done = verdict {
@@ -206,8 +208,9 @@ pub fn differences(n: u64, m: u64, coefficients: &[u64], table: &mut [u64]) -> V
 
 // The coefficients of a cubic table of differences: `coefficients` is written whole, or on a refusal left as it was.
 pub fn coefficients(n: u64, m: u64, table: &[u64], coefficients: &mut [u64]) -> Verdict
-    ensures { λ r. ⌜ r ≡ cubicCopy n m (now (table .entry)) (now (coefficients .entry)) ⌝ }
+    ensures answer { λ r. ⌜ r ≡ cubicCopy n m (now (table .entry)) (now (coefficients .entry)) ⌝ }
     ensures left { λ r. ⌜ now (coefficients .exit) ≡ cubicCoefficientsAfter n m (now (table .entry)) (now (coefficients .entry)) ⌝ }
+    ensures number { λ r. ⌜ codeOf r ≡ codeOf (cubicCopy n m (now (table .entry)) (now (coefficients .entry))) ⌝ }
 {
     let verdict = check_copy(n, m, table, coefficients.len());
     if let Verdict::Done = verdict {

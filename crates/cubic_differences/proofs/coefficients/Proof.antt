@@ -2,7 +2,7 @@
 use mathlib.Core.Path.{_≡_, refl, sym, ap, _∙_}
 use Rattle.refusals.specs.declared.Verdict.{Verdict}
 use Rattle.refusals.specs.declared.Verdict.the-variants.{Done}
-use Rattle.refusals.specs.Refusal.{after}
+use Rattle.refusals.specs.Refusal.{codeOf, after}
 use Rattle.cubic_tables.specs.Words.{cubicCoefficients}
 use Rattle.cubic_tables.specs.Answers.{cubicCopy}
 use Rattle.tables.proofs.AnswerLaw.{entries-ready}
@@ -37,14 +37,14 @@ returns c =
     let e = k .ensures (a .coefficients .now) refl in
     let d : cubicCopy (a .n) (a .m) (a .table .now) (a .coefficients .now) ≡ Done = sym e ∙ c .before .before .before .before .enum-told .given .1 in
     let r = entries-ready (cubicCount (a .n)) (a .n) (a .m) (a .table .now) (a .coefficients .now) d in
-    (e, c .before .before .coefficients-into .ensures (a .m) (r .table) ∙ sym (ap (λ (v : Verdict). after v (a .coefficients .now) (cubicCoefficients (a .n) (a .m) (a .table .now))) d))
+    (e, (c .before .before .coefficients-into .ensures (a .m) (r .table) ∙ sym (ap (λ (v : Verdict). after v (a .coefficients .now) (cubicCoefficients (a .n) (a .m) (a .table .now))) d), ap codeOf e))
 
 returns-2 : tie.Need-returns-2
 returns-2 c =
     let a = c .before .before .before .before .before .args in
     let k = c .before .before .check-copy in
     let e = k .ensures (a .coefficients .now) refl in
-    (e, sym (ap (λ (v : Verdict). after v (a .coefficients .now) (cubicCoefficients (a .n) (a .m) (a .table .now))) (sym e ∙ c .enum-told2 .given .1)))
+    (e, (sym (ap (λ (v : Verdict). after v (a .coefficients .now) (cubicCoefficients (a .n) (a .m) (a .table .now))) (sym e ∙ c .enum-told2 .given .1)), ap codeOf e))
 
 pub coefficients-spec : {M : Type 1} → statement M
 coefficients-spec =

@@ -2,7 +2,7 @@
 use mathlib.Core.Path.{_≡_, refl, sym, ap, _∙_}
 use Rattle.refusals.specs.declared.Verdict.{Verdict}
 use Rattle.refusals.specs.declared.Verdict.the-variants.{Done}
-use Rattle.refusals.specs.Refusal.{after}
+use Rattle.refusals.specs.Refusal.{codeOf, after}
 use Rattle.cubic_tables.specs.Words.{cubicDifferences}
 use Rattle.cubic_tables.specs.Answers.{cubicCopy}
 use Rattle.tables.proofs.AnswerLaw.{entries-ready}
@@ -37,14 +37,14 @@ returns c =
     let e = k .ensures (a .table .now) refl in
     let d : cubicCopy (a .n) (a .m) (a .coefficients .now) (a .table .now) ≡ Done = sym e ∙ c .before .before .before .before .enum-told .given .1 in
     let r = entries-ready (cubicCount (a .n)) (a .n) (a .m) (a .coefficients .now) (a .table .now) d in
-    (e, c .before .before .differences-into .ensures (a .m) (r .table) ∙ sym (ap (λ (v : Verdict). after v (a .table .now) (cubicDifferences (a .n) (a .m) (a .coefficients .now))) d))
+    (e, (c .before .before .differences-into .ensures (a .m) (r .table) ∙ sym (ap (λ (v : Verdict). after v (a .table .now) (cubicDifferences (a .n) (a .m) (a .coefficients .now))) d), ap codeOf e))
 
 returns-2 : tie.Need-returns-2
 returns-2 c =
     let a = c .before .before .before .before .before .args in
     let k = c .before .before .check-copy in
     let e = k .ensures (a .table .now) refl in
-    (e, sym (ap (λ (v : Verdict). after v (a .table .now) (cubicDifferences (a .n) (a .m) (a .coefficients .now))) (sym e ∙ c .enum-told2 .given .1)))
+    (e, (sym (ap (λ (v : Verdict). after v (a .table .now) (cubicDifferences (a .n) (a .m) (a .coefficients .now))) (sym e ∙ c .enum-told2 .given .1)), ap codeOf e))
 
 pub differences-spec : {M : Type 1} → statement M
 differences-spec =
