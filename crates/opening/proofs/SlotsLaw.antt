@@ -3,7 +3,7 @@ use mathlib.Core.Path.{_≡_, refl, sym, ap, _∙_}
 use mathlib.Core.Logic.{by-cases}
 use mathlib.Core.List.{List}
 use Prim.Native.Nat.{ℕ, zero, suc, _+_, _-_, _*_, _^_, _≤_, _<_}
-use native.Mathlib.Nat.{pow-le-pow-right, one-le-pow, pow-suc}
+use native.Mathlib.Nat.{one-le-pow, pow-suc}
 use native.Mathlib.Numerals.{add-one}
 use native.Mathlib.Decide.{ℕ-discrete}
 use native.Mathlib.Omega.{arith}
@@ -49,12 +49,9 @@ module _ (n : ℕ) (c : List ℕ) (q : ℕ) where
   filled-whole b s e f =
       record { long = f .long; used = λ m w k g. f .used m w k (omega arith); unused = λ k g. f .unused k (omega arith) }
 
--- powers of three up to 3 ^ 20
+-- powers of three
 pub power-pos : (b : ℕ) → 0 < 3 ^ b
 power-pos b = one-le-pow b 3 (omega arith)
-
-pub power-le : (b : ℕ) → b ≤ 20 → 3 ^ b ≤ 3 ^ 20
-power-le b h = pow-le-pow-right {n = 3} (omega arith) {i = b} {j = 20} h
 
 pub power-next : (b : ℕ) → 3 ^ b * 3 ≡ 3 ^ (b + 1)
 power-next b = sym (pow-suc 3 b) ∙ ap (λ (x : ℕ). 3 ^ x) (sym (add-one b))

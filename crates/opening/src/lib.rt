@@ -8,8 +8,7 @@ use trits::Vector;
 ghost use mathlib.Core.Path.{_≡_};
 ghost use Rattle.opening.specs.Opened.{openVerdict, openOf, refusedOpen, noRecord};
 ghost use Rattle.refusals.specs.Refusal.{codeOf};
-ghost use Rattle.refusals.specs.declared.Verdict.the-variants.{Done};
-ghost use Rattle.tables.specs.Answers.{checkedOf};
+ghost use Rattle.given.specs.Given.{quadratic, Checked};
 
 mod parts;
 
@@ -32,8 +31,8 @@ pub struct Opened {
 
 // The record of a table at any place 0 to 3^n.
 pub fn open(n: u64, m: u64, table: &[u64], place: Place) -> Opened
-    ensures { λ r. ⌜ r ≡ openOf n m (now (table .entry)) (place .0) ⌝ }
-    ensures number { λ r. ⌜ codeOf (r .verdict) ≡ codeOf (openVerdict n m (now (table .entry)) (place .0)) ⌝ }
+    ensures { λ r. ⌜ r ≡ openOf (quadratic n m (now (table .entry))) (place .0) ⌝ }
+    ensures number { λ r. ⌜ codeOf (r .verdict) ≡ codeOf (openVerdict (quadratic n m (now (table .entry))) (place .0)) ⌝ }
 {
     let verdict = tables::check(n, m, table);
     match verdict {
@@ -44,8 +43,8 @@ pub fn open(n: u64, m: u64, table: &[u64], place: Place) -> Opened
 
 // The table was checked: the place is left to judge.
 fn open_checked(n: u64, m: u64, table: &[u64], at: u64) -> Opened
-    requires { ⌜ checkedOf n m (now table) ≡ Done ⌝ }
-    ensures { λ r. ⌜ r ≡ openOf n m (now (table .entry)) at ⌝ }
+    requires { ⌜ Checked (quadratic n m (now table)) ⌝ }
+    ensures { λ r. ⌜ r ≡ openOf (quadratic n m (now (table .entry))) at ⌝ }
 {
     if at > positions::power(n) {
         return refused(Refusal::Range);

@@ -13,9 +13,8 @@ ghost use Rattle.positions.specs.Positions.{latest, lastOf};
 ghost use Rattle.polynomials.specs.Poly.{slope, diff};
 ghost use Rattle.tables.specs.Words.{polyAt, Table};
 ghost use Rattle.tables.specs.Monomials.{countOf};
-ghost use Rattle.refusals.specs.declared.Verdict.the-variants.{Done};
 ghost use Rattle.refusals.specs.Limits.{mostUnknowns};
-ghost use Rattle.tables.specs.Answers.{checkedOf};
+ghost use Rattle.given.specs.Given.{quadratic, Checked};
 ghost use Rattle.opening.specs.Opened.{openedAt};
 ghost use Rattle.opening.specs.Parts.{Slots};
 
@@ -115,8 +114,8 @@ fn latest_place(p: u64) -> u64
 
 // The record of a checked table at a place; c is room for its coefficients.
 fn fill(n: u64, m: u64, table: &[u64], place: u64, c: &mut [u64]) -> Record
-    requires { ⌜ (checkedOf n m (now table) ≡ Done) × (place ≤ 3 ^ n) × (length (now c) ≡ 2 * countOf n) ⌝ }
-    ensures { λ r. ⌜ r ≡ openedAt n m (now (table .entry)) place ⌝ }
+    requires { ⌜ Checked (quadratic n m (now table)) × (place ≤ 3 ^ n) × (length (now c) ≡ 2 * countOf n) ⌝ }
+    ensures { λ r. ⌜ r ≡ openedAt (quadratic n m (now (table .entry))) place ⌝ }
 {
     let k = n as usize;
     let q = latest_place(place);
@@ -135,8 +134,8 @@ fn fill(n: u64, m: u64, table: &[u64], place: u64, c: &mut [u64]) -> Record
 
 // The record of a checked table at a place.
 pub fn record_at(n: u64, m: u64, table: &[u64], place: u64) -> Record
-    requires { ⌜ (checkedOf n m (now table) ≡ Done) × (place ≤ 3 ^ n) ⌝ }
-    ensures { λ r. ⌜ r ≡ openedAt n m (now (table .entry)) place ⌝ }
+    requires { ⌜ Checked (quadratic n m (now table)) × (place ≤ 3 ^ n) ⌝ }
+    ensures { λ r. ⌜ r ≡ openedAt (quadratic n m (now (table .entry))) place ⌝ }
 {
     let mut c = [0u64; MOST_WORDS];
     let len = table.len();

@@ -8,7 +8,7 @@ use native.Mathlib.Omega.{arith}
 use Rattle.positions.specs.Positions.{lowestOf}
 use Rattle.positions.proofs.LowestLaw.{of-le, of-times, of-level, of-other}
 use Rattle.residues.specs.Sums.{sum, same}
-use Rattle.polynomials.specs.Poly.{Poly, valueOf, changeOf, eval, diff, prev, tableOf, backOf, prevOf, bumped}
+use Rattle.polynomials.specs.Poly.{Poly, valueOf, changeBy, changeOf, eval, diff, prev, tableOf, backOf, prevOf, bumped}
 use Rattle.positions.specs.Positions.{latest}
 use Rattle.residues.proofs.ModLaw.{Cong, crefl, cof, csym, _⨾_, cdrop, cadd, cmul, cancel, cminus, csmall}
 use Rattle.residues.proofs.SumLaw.{sum-scale, sum-ext, sum-add}
@@ -90,7 +90,7 @@ module _ (q : ℕ) (two : 1 < q) where
 
   -- the same in the words of document 01
   pub diff-change : (f : Poly) (n b : ℕ) (x : ℕ → ℕ) → b < n → diff f n b x % q ≡ changeOf q f n b x
-  unfolding changeOf
+  unfolding changeBy
   diff-change f n b x l =
       diff-real f n b x l .same
       ∙ ap₂ (λ (u v : ℕ). (u + (q - 1) * v) % q) (eval-value f n (bumped q b x)) (eval-value f n x)

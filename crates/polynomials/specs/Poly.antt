@@ -16,9 +16,13 @@ valueOf f n x = f .const + sum n (λ i. f .lin i * x i) + sum n (λ i. sum (n - 
 unfoldable pub bumped : ℕ → ℕ → (ℕ → ℕ) → ℕ → ℕ
 bumped q b x k = (x k + same k b) % q
 
--- the value after adding 1 to unknown b, minus the value
-unfoldable pub changeOf : ℕ → Poly → ℕ → ℕ → (ℕ → ℕ) → ℕ
-changeOf q f n b x = (valueOf f n (bumped q b x) + (q - 1) * valueOf f n x) % q
+-- a function of points after adding 1 to unknown b, minus the function
+unfoldable pub changeBy : ℕ → ((ℕ → ℕ) → ℕ) → ℕ → (ℕ → ℕ) → ℕ
+changeBy q F b x = (F (bumped q b x) + (q - 1) * F x) % q
+
+-- that of a polynomial's value
+abbrev pub changeOf : ℕ → Poly → ℕ → ℕ → (ℕ → ℕ) → ℕ
+changeOf q f n b x = changeBy q (valueOf f n) b x
 
 -- the value again, with the terms of the highest unknown apart: what inductions over n use
 unfoldable pub eval : Poly → ℕ → (ℕ → ℕ) → ℕ

@@ -14,16 +14,15 @@ ghost use mathlib.Core.Path.{_≡_};
 ghost use mathlib.Core.Bool.{true};
 ghost use Prim.Native.Nat.{_≤_};
 ghost use lib.ListN.{length};
-ghost use Rattle.refusals.specs.declared.Verdict.the-variants.{Done};
-ghost use Rattle.tables.specs.Answers.{checkedOf};
-ghost use Rattle.walks.specs.Calls.{listAfter};
-ghost use Rattle.search.specs.Search.{trailOf, fits, roomVerdict, ranOf, outcomeOf, listOf, Tells};
-ghost use Rattle.search.specs.Parts.{stopFrom, reportedOf};
+ghost use Rattle.walks.specs.Calls.{stopFrom, listAfter};
+ghost use Rattle.given.specs.Given.{quadratic, Checked};
+ghost use Rattle.search.specs.Search.{trailBehind, fits, roomVerdict, ranOf, outcomeOf, listLeft, Tells};
+ghost use Rattle.search.specs.Parts.{reportedOf};
 
 // Whether a record is that of a checked table at its place.
 fn fits_table(n: u64, m: u64, table: &[u64], r: Record) -> bool
-    requires { ⌜ checkedOf n m (now table) ≡ Done ⌝ }
-    ensures { λ b. ⌜ b ≡ fits n m (now (table .entry)) r ⌝ }
+    requires { ⌜ Checked (quadratic n m (now table)) ⌝ }
+    ensures { λ b. ⌜ b ≡ fits (quadratic n m (now (table .entry))) r ⌝ }
 {
     let at = r.place.0;
     if at > positions::power(n) {
@@ -75,9 +74,9 @@ fn reported(n: u64, m: u64, from: u64, end: u64, len: usize, t: Ran) -> Outcome
 
 // The walk of a call that nothing refuses. Public for lists that are filled piece by piece, whose calls are judged once.
 pub fn ran(n: u64, m: u64, table: &[u64], r: Record, budget: u64, list: &mut [u64]) -> Outcome
-    requires { ⌜ (checkedOf n m (now table) ≡ Done) × (fits n m (now table) r ≡ true) ⌝ }
-    ensures { λ o. ⌜ (o ≡ ranOf n m (now (table .entry)) (r .place .0) budget (length (now (list .entry))))
-        × (now (list .exit) ≡ listAfter (trailOf n m (now (table .entry))) budget (r .place .0) (now (list .entry))) ⌝ }
+    requires { ⌜ Checked (quadratic n m (now table)) × (fits (quadratic n m (now table)) r ≡ true) ⌝ }
+    ensures { λ o. ⌜ (o ≡ ranOf (quadratic n m (now (table .entry))) (r .place .0) budget (length (now (list .entry))))
+        × (now (list .exit) ≡ listAfter (trailBehind (quadratic n m (now (table .entry)))) budget (r .place .0) (now (list .entry))) ⌝ }
 {
     let from = r.place.0;
     let value = r.value;
@@ -105,8 +104,8 @@ fn turned_away(f: Refusal, r: Record) -> Outcome
 
 // The table was checked: record, budget and the list's length are left to judge.
 fn judged_checked(n: u64, m: u64, table: &[u64], r: Record, budget: u64, room: usize) -> Verdict
-    requires { ⌜ checkedOf n m (now table) ≡ Done ⌝ }
-    ensures { λ v. ⌜ v ≡ roomVerdict n m (now (table .entry)) r budget room ⌝ }
+    requires { ⌜ Checked (quadratic n m (now table)) ⌝ }
+    ensures { λ v. ⌜ v ≡ roomVerdict (quadratic n m (now (table .entry))) r budget room ⌝ }
 {
     if !fits_table(n, m, table, r) {
         return Verdict::Refused(Refusal::Record);
@@ -122,7 +121,7 @@ fn judged_checked(n: u64, m: u64, table: &[u64], r: Record, budget: u64, room: u
 
 // All that a call is refused for, with a list of so many entries.
 pub fn judged(n: u64, m: u64, table: &[u64], r: Record, budget: u64, room: usize) -> Verdict
-    ensures { λ v. ⌜ v ≡ roomVerdict n m (now (table .entry)) r budget room ⌝ }
+    ensures { λ v. ⌜ v ≡ roomVerdict (quadratic n m (now (table .entry))) r budget room ⌝ }
 {
     let verdict = tables::check(n, m, table);
     match verdict {
@@ -133,9 +132,9 @@ pub fn judged(n: u64, m: u64, table: &[u64], r: Record, budget: u64, room: usize
 
 // One call: at most budget points from the record's place on, each common zero's point listed from the front of list.
 pub fn search(n: u64, m: u64, table: &[u64], r: Record, budget: u64, list: &mut [u64]) -> Outcome
-    ensures { λ o. ⌜ (o ≡ outcomeOf n m (now (table .entry)) r budget (now (list .entry)))
-        × (now (list .exit) ≡ listOf n m (now (table .entry)) r budget (now (list .entry)))
-        × Tells n m (now (table .entry)) r budget (now (list .entry)) (o .answer) ⌝ }
+    ensures { λ o. ⌜ (o ≡ outcomeOf (quadratic n m (now (table .entry))) r budget (now (list .entry)))
+        × (now (list .exit) ≡ listLeft (quadratic n m (now (table .entry))) r budget (now (list .entry)))
+        × Tells (quadratic n m (now (table .entry))) r budget (now (list .entry)) (o .answer) ⌝ }
 {
     let verdict = judged(n, m, table, r, budget, list.len());
     match verdict {

@@ -6,6 +6,7 @@ use mathlib.Core.List.{List, [], _∷_, _++_}
 use Prim.Native.Nat.{ℕ, zero, suc, _+_, _-_, _≤_, _<_}
 use lib.Dec.{eqb}
 use lib.ListN.{length, drop}
+use Rattle.refusals.specs.Choice.{pick}
 use Rattle.walks.specs.declared.Stop.{Stop}
 use Rattle.walks.specs.declared.Stop.the-variants.{Ended, Full, Spent}
 use Rattle.walks.specs.declared.Report.{Report}
@@ -48,15 +49,13 @@ pub record FirstStop (T : Trail) (b c p k : ℕ) : Type 0 where
   pub goes : (j : ℕ) → j < k → (p + j ≡ T .end → ⊥) × (length (zerosIn T p j) < c)
   pub here : (p + k ≡ T .end) ⊎ (length (zerosIn T p k) ≡ c) ⊎ (k ≡ b)
 
--- a where the test holds, else what is asked next
-abbrev pub pick : Bool → Stop → Stop → Stop
-pick true a b = a
-pick false a b = b
-
--- why a call stopped before place p with f of c entries used: asked in the order ended, full, spent;
+-- why a call stopped before place p of a walk that ends at place e, with f of c entries used: asked in the order ended, full, spent;
 -- with full and spent goes the place next to be examined
+abbrev pub stopFrom : ℕ → ℕ → ℕ → ℕ → Stop
+stopFrom p e f c = pick (eqb p e) Ended (pick (eqb f c) (Full (record { 0 = p })) (Spent (record { 0 = p })))
+
 abbrev pub stopAt : Trail → ℕ → ℕ → ℕ → Stop
-stopAt T c f p = pick (eqb p (T .end)) Ended (pick (eqb f c) (Full (record { 0 = p })) (Spent (record { 0 = p })))
+stopAt T c f p = stopFrom p (T .end) f c
 
 -- document 01's number of a stop
 abbrev pub stopNumber : Stop → ℕ

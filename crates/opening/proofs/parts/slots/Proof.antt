@@ -6,7 +6,8 @@ use borrow.Author.Needs.{needs}
 use Rattle.positions.specs.Positions.{latest}
 use Rattle.gray.specs.Numbers.{pointDigit}
 use Rattle.opening.proofs.PlaceLaw.{latest-none}
-use Rattle.opening.proofs.SlotsLaw.{Filled, filled-none, filled-next, filled-whole, power-pos, power-le, power-next}
+use Rattle.given.proofs.TableLaw.{power-le}
+use Rattle.opening.proofs.SlotsLaw.{Filled, filled-none, filled-next, filled-whole, power-pos, power-next}
 use Rattle.opening.proofs.parts.slots.Statement.{statement}
 use Rattle.opening.proofs.parts.slots.Tie as tie
 use Rattle.opening.proofs.parts.slots.Reads as reads

@@ -2,6 +2,7 @@
 use mathlib.Core.Path.{sym, _∙_}
 use Rattle.search.proofs.VerdictLaw.{by-table}
 use borrow.Author.Needs.{needs}
+use Rattle.given.specs.Given.{quadratic}
 use Rattle.search.proofs.calls.judged.Statement.{statement}
 use Rattle.search.proofs.calls.judged.Tie as tie
 use Rattle.search.proofs.calls.judged.Reads as reads
@@ -29,7 +30,7 @@ judged-checked-requires c κs = sym (c .before .before .check .ensures .0) ∙ c
 returns : tie.Need-returns
 returns c =
     let s = c .before .before .before .before .before in
-    by-table (s .args .n) (s .args .m) (s .args .table .now) (s .args .r) (s .args .budget) (s .args .room) _ (sym (c .before .before .before .check .ensures .0) ∙ c .before .verdict .given .1)
+    by-table (quadratic (s .args .n) (s .args .m) (s .args .table .now)) (s .args .r) (s .args .budget) (s .args .room) _ (sym (c .before .before .before .check .ensures .0) ∙ c .before .verdict .given .1)
 
 -- src/calls.rt:125:1
 returns-2 : tie.Need-returns-2

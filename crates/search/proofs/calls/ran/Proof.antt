@@ -3,7 +3,8 @@ use mathlib.Core.Path.{_≡_, sym, ap, subst, _∙_}
 use Prim.Native.Nat.{ℕ, _^_, _≤_, _<_}
 use native.Mathlib.Omega.{arith}
 use lib.ListN.{length, length-map}
-use Rattle.opening.proofs.OpenLaw.{within, table-long}
+use Rattle.given.specs.Given.{quadratic}
+use Rattle.given.proofs.TableLaw.{within, table-of}
 use Rattle.search.proofs.RanLaw.{fits-place, ran-is}
 use borrow.Author.Needs.{needs}
 use Rattle.search.proofs.calls.ran.Statement.{statement}
@@ -25,9 +26,9 @@ run-requires c κs =
     let n = s .args .n in
     let m = s .args .m in
     let t = s .args .table .now in
-    let w = within n m t (s .pre .0) in
+    let w = within (quadratic n m t) (s .pre .0) in
     let p : c .before .power .result ≡ 3 ^ n = c .before .power .ensures .0 (omega (arith, w .most)) in
-    (record { some = w .least; small = w .most; table = table-long n m t (s .pre .0); end = omega arith }, omega (arith, fits-place n m t (s .args .r) (s .pre .1)))
+    (record { some = w .least; small = w .most; table = table-of n m t (s .pre .0) .size; end = omega arith }, omega (arith, fits-place (quadratic n m t) (s .args .r) (s .pre .1)))
 
 -- src/calls.rt:91:5
 reported-requires : tie.Need-reported-requires
@@ -44,7 +45,7 @@ returns c =
     let n = s .args .n in
     let m = s .args .m in
     let t = s .args .table .now in
-    let w = within n m t (s .pre .0) in
+    let w = within (quadratic n m t) (s .pre .0) in
     let p : c .before .before .before .before .before .power .result ≡ 3 ^ n = c .before .before .before .before .before .power .ensures .0 (omega (arith, w .most)) in
     ran-is n m t (s .pre .0) (s .args .r) (s .pre .1) (s .args .budget) _ (s .args .list .now) _ (c .before .before .before .run .result) _ p (simp length-map at (c .before .before .before .run .ok .1 .1 .0 .1 .1 .1 .1 .0 .1 .0 .1)) (c .before .before .before .run .ensures .0) (c .reported .ensures)
 

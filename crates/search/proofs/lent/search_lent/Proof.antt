@@ -40,7 +40,8 @@ use denote.Triple.Table.{entered, cited}
 use denote.Triple.Walked.{says, Stays, stay-ref, stay-none, stay-none-slice, gave-slice, walkOf, goes-ref, goes-none, goes-none-slice, goes-gave-slice, Walks, ends-at, walked, walk-meets}
 use denote.Exit.{yes}
 use denote.Signature.{plain}
-use Rattle.search.specs.Search.{outcomeOf, listOf, Tells}
+use Rattle.given.specs.Given.{quadratic}
+use Rattle.search.specs.Search.{outcomeOf, listLeft, Tells}
 use Rattle.opening.specs.declared.Record.{Record}
 use Rattle.search.specs.declared.Answer.{Answer}
 use Rattle.search.specs.declared.Outcome.{Outcome}
@@ -121,7 +122,7 @@ module _ {M : Type 1} (𝓤 : URA M) (H : Heap 𝓤) (A : Atoms 𝓤) (W : Given
 
   -- what the core says of its result and of the list
   abbrev Says : Outcome → List ℕ → Type 0
-  Says r zs = (r ≡ outcomeOf n m (t .now) h k ys) × (zs ≡ listOf n m (t .now) h k ys) × Tells n m (t .now) h k ys (r .answer)
+  Says r zs = (r ≡ outcomeOf (quadratic n m (t .now)) h k ys) × (zs ≡ listLeft (quadratic n m (t .now)) h k ys) × Tells (quadratic n m (t .now)) h k ys (r .answer)
 
   exits : (r : Outcome) (zs : List ℕ) → Says r zs → length zs ≡ length ys
       → ent 𝓤 (⋆ 𝓤 H A (‵ (flft κ₀ q₀) ∷ ‵ (flft κ₁ q₁) ∷ (‵ (flft κ₂ q₂) ⊛ ‵ ftrue) ∷ ‵ OwnT ∷ ‵ (fobs γ (R .coded .code (r .«record»))) ∷ ‵ (fbor κ₁ (Body (mem R) b o γ)) ∷ ‵ (finally u64 γ′ zs) ∷ ‵ (N.the-row .own (r .answer) (answer-val (r .answer) ∷ [])) ∷ [])) (Post (answer-val (r .answer)))

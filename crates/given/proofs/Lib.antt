@@ -1,0 +1,2 @@
+pub mod TableLaw
+pub mod ValuesLaw

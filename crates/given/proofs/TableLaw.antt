@@ -1,0 +1,55 @@
+-- What a checked table is, and what is asked after it.
+use mathlib.Core.Path.{_≡_, sym, _∙_}
+use mathlib.Core.List.{List}
+use Prim.Native.Nat.{ℕ, _^_, _≤_}
+use native.Mathlib.Nat.{pow-le-pow-right}
+use native.Mathlib.Omega.{arith}
+use Rattle.refusals.specs.declared.Refusal.{Refusal}
+use Rattle.refusals.specs.declared.Verdict.{Verdict}
+use Rattle.refusals.specs.declared.Verdict.the-variants.{Done, Refused}
+use Rattle.refusals.specs.Limits.{Within}
+use Rattle.refusals.proofs.RefusalLaw.{sized-within, sized-done}
+use Rattle.tables.specs.Words.{Table}
+use Rattle.tables.specs.Answers.{long, paired}
+use Rattle.tables.proofs.AnswerLaw.{long-done, paired-done, accepted-iff, checked-refused, checked-passed}
+use Rattle.given.specs.Given.{Given, quadratic, tableVerdict, Checked}
+
+-- powers of three up to 3 ^ 20
+pub power-le : (b : ℕ) → b ≤ 20 → 3 ^ b ≤ 3 ^ 20
+power-le b h = pow-le-pow-right {n = 3} (omega arith) {i = b} {j = 20} h
+
+module _ (g : Given) where
+  -- a checked table passes every question that is asked of it, and one that is refused is refused whatever is asked next
+  pub checked-next : (v : Verdict) → Checked g → tableVerdict g v ≡ v
+  checked-next v ok = checked-passed (g .n) (g .m) (g .words) v ok
+
+  pub refused-first : (f : Refusal) (v : Verdict) → tableVerdict g Done ≡ Refused f → tableVerdict g v ≡ Refused f
+  refused-first f v e = checked-refused (g .n) (g .m) (g .words) f v e
+
+  -- what nothing refuses: the table is checked, and nothing that was asked next refused it
+  pub done-first : (v : Verdict) → tableVerdict g v ≡ Done → Checked g
+  done-first v e =
+      let a = long-done (g .n) (g .words) (paired (g .n) (g .m) (g .words) v) (sized-done (g .n) (g .m) (long (g .n) (g .words) (paired (g .n) (g .m) (g .words) v)) e) in
+      accepted-iff (g .n) (g .m) (g .words) .1
+      (record {
+        sizes = sized-within (g .n) (g .m) (long (g .n) (g .words) (paired (g .n) (g .m) (g .words) v)) e;
+        table = paired-done (g .n) (g .m) (g .words) v (a .0) (a .1) .0;
+      })
+
+  pub done-next : (v : Verdict) → tableVerdict g v ≡ Done → v ≡ Done
+  done-next v e = sym (checked-next v (done-first v e)) ∙ e
+
+  -- its sizes are within the limits
+  pub within : Checked g → Within (g .n) (g .m)
+  within ok = accepted-iff (g .n) (g .m) (g .words) .0 ok .sizes
+
+  -- places fit 32 bits
+  pub power-small : Checked g → 3 ^ g .n ≤ 3 ^ 20
+  power-small ok = power-le (g .n) (within ok .most)
+
+-- the words of a table of degree 2: of the exact length, every pair legal
+pub table-of : (n m : ℕ) (t : List ℕ) → Checked (quadratic n m t) → Table n m t
+table-of n m t ok = accepted-iff n m t .0 ok .table
+
+pub checked-of : (n m : ℕ) (t : List ℕ) → Within n m → Table n m t → Checked (quadratic n m t)
+checked-of n m t w a = accepted-iff n m t .1 (record { sizes = w; table = a })
