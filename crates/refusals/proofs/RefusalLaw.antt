@@ -31,6 +31,7 @@ number-pos refusal.Vertex e = omega (arith, e)
 number-pos refusal.Count e = omega (arith, e)
 number-pos refusal.Long e = omega (arith, e)
 number-pos refusal.Edges e = omega (arith, e)
+number-pos refusal.Room e = omega (arith, e)
 
 never : (r : Refusal) → Refused r ≡ Done → ⊥
 never r e = let z : _≡_ {A = ℕ} 0 1 = cc in omega arith

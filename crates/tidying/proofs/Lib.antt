@@ -1,0 +1,2 @@
+pub mod TidyLaw
+pub mod SetLaw
