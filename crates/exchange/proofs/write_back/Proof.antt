@@ -1,51 +1,84 @@
+-- `exchange::write_back` meets its contract: whether the page fits is known before a byte is written.
+use mathlib.Core.Path.{_≡_, sym, ap, subst, _∙_}
+use mathlib.Core.List.{List}
+use Prim.Native.Nat.{ℕ, _+_, _-_, _≤_}
+use native.Mathlib.Omega.{arith}
+use lib.ListN.{length, length-replicate}
+use lib.Seq.{length-take-le}
+use Rattle.texts.specs.Text.{Put}
+use Rattle.tidying.specs.Tidy.{tidyText}
+use Rattle.exchange.specs.Answers.{tidied}
+use Rattle.exchange.proofs.AnswerLaw.{tidied-short, tidied-fits, answers-refused, answers-graph, put-whole, read-repeats, page-length, page-front}
 use borrow.Author.Needs.{needs}
 use Rattle.exchange.proofs.write_back.Statement.{statement}
 use Rattle.exchange.proofs.write_back.Tie as tie
-use Rattle.exchange.proofs.write_back.Reads as reads
-use Rattle.exchange.proofs.write_back.Lts as lts
-use Rattle.tallies.proofs.count_lines.Reads as count-lines-reads
-use Rattle.texts.proofs.put.Reads as put-reads
-use Rattle.tidying.proofs.put_tidy.Reads as put-tidy-reads
 
--- src/lib.rt:45:25
 slice-aggregate-put-tidy : tie.Need-slice-aggregate-put-tidy
 slice-aggregate-put-tidy c = search needs
 
--- src/lib.rt:45:9
 put-tidy-requires : tie.Need-put-tidy-requires
 put-tidy-requires c κs = search needs
 
--- src/lib.rt:47:9
 returns : tie.Need-returns
-returns c = ?
+returns c =
+    let a = c .before .before .before .before .before .before .args in
+    let h = c .before .before .before .before .before .before .pre .1 in
+    let p = c .before .before .put-tidy in
+    let t = a .text .now in
+    let old = a .out .now in
+    let n = page-length t (a .v) (a .e) (a .seen .now) h _ _ (p .result) (p .ensures .0) in
+    answers-refused t (tidied t (length old)) old _ 0 (tidied-short t (length old) (a .v) (h .edges) (h .is) (omega (arith, n, c .if1 .taken)))
 
--- src/lib.rt:52:9
 count-lines-requires : tie.Need-count-lines-requires
 count-lines-requires c κs = search needs
 
--- src/lib.rt:53:20
 sub-repeated : tie.Need-sub-repeated
-sub-repeated c = ?
+sub-repeated c =
+    let a = c .before .before .before .before .before .before .before .before .args in
+    let h = c .before .before .before .before .before .before .before .before .pre .1 in
+    below _ _ _ _ (c .before .count-lines .ensures .1) (read-repeats (a .text .now) (a .v) (a .e) (a .seen .now) h)
+  where
+    below : (n m e k : ℕ) → n ≡ m → m ≡ e + k → e ≤ n
+    below n m e k p q = omega arith
 
--- src/lib.rt:54:17
 array-share-prefix-page : tie.Need-array-share-prefix-page
 array-share-prefix-page c = search needs
 
--- src/lib.rt:54:17
 slice-aggregate-put : tie.Need-slice-aggregate-put
-slice-aggregate-put c = ?
+slice-aggregate-put c =
+    let p = c .before .before .before .before .before .before .put-tidy in
+    sym (length-take-le (p .result) (p .last .0) (omega (arith, p .ensures .0 .size, p .ensures .1, length-replicate {A = ℕ} 19453 0)))
 
--- src/lib.rt:54:5
 put-requires : tie.Need-put-requires
-put-requires c κs = ?
+put-requires c κs =
+    let p = c .before .before .before .before .before .before .put-tidy in
+    omega (arith, length-take-le (p .result) (p .last .0) (omega (arith, p .ensures .0 .size, p .ensures .1, length-replicate {A = ℕ} 19453 0)), c .before .before .before .before .if1 .left)
 
--- src/lib.rt:40:1
 same-length : tie.Need-same-length
 same-length c = search needs
 
--- src/lib.rt:40:1
 returns-2 : tie.Need-returns-2
-returns-2 c = ?
+returns-2 c =
+    let a = c .before .before .before .before .before .before .before .before .before .before .before .before .before .args in
+    let h = c .before .before .before .before .before .before .before .before .before .before .before .before .before .pre .1 in
+    let p = c .before .before .before .before .before .before .before .before .before .put-tidy in
+    let k = c .before .before .before .before .before .before .count-lines in
+    let t = a .text .now in
+    let old = a .out .now in
+    let new = c .before .before .put .last .0 in
+    let n = page-length t (a .v) (a .e) (a .seen .now) h _ _ (p .result) (p .ensures .0) in
+    let f = page-front t (a .v) (a .e) (a .seen .now) h _ (p .last .0) (p .result) (p .ensures .0) in
+    answers-graph t (tidied t (length old)) old (a .v) (h .edges) new (p .result) (k .result .comments) (k .result .edges - a .e) (k .result .turned)
+    (tidied-fits t (length old) (a .v) (h .edges) (h .is) (omega (arith, n, c .before .before .before .before .before .before .before .if1 .left)))
+    n
+    (k .ensures .0)
+    (rest _ _ _ _ (k .ensures .1) (read-repeats t (a .v) (a .e) (a .seen .now) h))
+    (k .ensures .2)
+    (put-whole old (tidyText (a .v) (h .edges)) new (c .before .before .put .result)
+    (subst (λ (s : List ℕ). Put old 0 s new (c .before .before .put .result)) f (c .before .before .put .ensures)))
+  where
+    rest : (n m e k : ℕ) → n ≡ m → m ≡ e + k → n - e ≡ k
+    rest n m e k p q = omega arith
 
 pub write-back-spec : {M : Type 1} → statement M
 write-back-spec =
