@@ -1,6 +1,6 @@
 // A graph file written back tidied: read, counted, and written where the output has room for the whole text.
 // Contracts cite graphs/specs/Reading (what a text means), tidying/specs/Tidy (what is written), tallies/specs/Tallies (what is counted)
-// and specs/Answers; specs/Again says what the written text is.
+// and specs/Answers.
 use graphs::TEXT_MOST;
 use graphs::numbered;
 use graphs::read_lines;

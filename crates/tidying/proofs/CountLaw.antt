@@ -144,7 +144,7 @@ count-once (x ∷ xs) es g = by-test (λ ys. count-once xs ys (λ e l. g (suc e)
         (rest ys) (length-append es (x ∷ [])) (count-new es x (g 0 (omega arith)) h))
 
 -- the ends of an edge of the set
-has-edged : (v : ℕ) (es : List Ends) → Drawn v es → (a b : ℕ) → hasEdge es a b ≡ true → Edged v (record { one = a; other = b })
+pub has-edged : (v : ℕ) (es : List Ends) → Drawn v es → (a b : ℕ) → hasEdge es a b ≡ true → Edged v (record { one = a; other = b })
 has-edged v es d a b h = from (has-among es a b h)
   where
     from : Among es a b → Edged v (record { one = a; other = b })

@@ -6,11 +6,11 @@ use lib.ListN.{length, take}
 use Rattle.graphs.specs.Edges.{Ends, hasEdge}
 use Rattle.graphs.specs.Reading.{wordsLeast, graph, outcomeOf}
 use Rattle.tidying.specs.Tidy.{tidyOf, tidyText}
 use Rattle.exchange.specs.Answers.{tidied, answerOf, outAfter}
 use Rattle.exchange.specs.declared.TidyAnswer.the-variants as answer
 
 -- for a graph of v vertices and the different edges es that a text was read to
-pub record Again (v : ℕ) (es : List Ends) : Type 0 where
+pub record Reread (v : ℕ) (es : List Ends) : Type 0 where
   -- the written text is read without refusal, to as many vertices, and to its edges in order
   pub read : outcomeOf (tidyText v es) wordsLeast ≡ graph v (tidyOf (hasEdge es))
   -- they are the same set, and E is the number of different edges

@@ -1,0 +1,2 @@
+pub mod SpeltLaw
+pub mod ShapeLaw
