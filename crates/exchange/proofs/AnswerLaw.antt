@@ -39,7 +39,7 @@ module _ (t : List ℕ) (room : ℕ) where
     tidied-fits h = ap (fitting room) o ∙ rw (le-ltb room (length (tidyText v es)) h)
 
 -- ---- answers
-after-graph : (v : ℕ) (es : List Ends) (old : List ℕ) → outAfter (graph v es) old ≡ tidyText v es ++ drop (length (tidyText v es)) old
+pub after-graph : (v : ℕ) (es : List Ends) (old : List ℕ) → outAfter (graph v es) old ≡ tidyText v es ++ drop (length (tidyText v es)) old
 unfolding outAfter
 after-graph v es old = refl
 
