@@ -8,16 +8,13 @@ use native.Mathlib.Decide.{decLt, ℕ-discrete}
 use native.Mathlib.Omega.{arith}
 use lib.Dec.{ltb}
 use borrow.Author.Tests.{lt-ltb, le-ltb}
+use Rattle.lines.proofs.ReturnLaw.{other-true}
 use Rattle.graphs.specs.Edges.{Ends, meets, hasEdge}
 use Rattle.graphs.specs.Reading.{verticesMost}
 use Rattle.graphs.specs.Scans.{cellOf, cells}
 use Rattle.graphs.proofs.EdgeLaw.{meets-self, meets-ends}
 use Rattle.tidying.specs.Tidy.{graphText, keep, cellHas, tidyFrom, tidyOf, tidyText}
 use Rattle.tidying.proofs.TidyLaw.{tidy-more}
-
-other-true : (b : Bool) → (b ≡ true → ⊥) → b ≡ false
-other-true true n = absurd (n refl)
-other-true false n = refl
 
 and-none : (b : Bool) → (b && false) ≡ false
 and-none true = refl

@@ -8,12 +8,12 @@ use native.Mathlib.Omega.{arith}
 use lib.Dec.{eqb, ltb}
 use lib.ListN.{length, getD, take, drop}
 use borrow.Author.Tests.{lt-ltb, le-ltb}
-use Rattle.texts.specs.Text.{Put}
+use Rattle.texts.specs.Text.{lineIf, Put}
 use Rattle.graphs.specs.Edges.{Ends, hasEdge}
 use Rattle.graphs.specs.Reading.{verticesMost}
 use Rattle.graphs.specs.Scans.{cellOf, cells, Seen}
 use Rattle.graphs.proofs.EdgeLaw.{seen-true}
-use Rattle.tidying.specs.Tidy.{edgeLine, edgesText, graphText, keep, cellHas, tidyFrom, tidyOf, tidyText, flagged, lineIf, cellLine, problemLine, flagsText}
+use Rattle.tidying.specs.Tidy.{edgeLine, edgesText, graphText, keep, cellHas, tidyFrom, tidyOf, tidyText, flagged, cellLine, problemLine, flagsText}
 
 -- ---- cells
 cell-back : (c : ℕ) → cellOf (c / 21) (c % 21) ≡ c

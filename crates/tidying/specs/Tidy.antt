@@ -4,7 +4,7 @@ use mathlib.Core.List.{List, [], _∷_, _++_}
 use Prim.Native.Nat.{ℕ, zero, suc, _+_, _*_, _/_, _%_}
 use lib.Dec.{eqb, ltb}
 use lib.ListN.{length, getD}
-use Rattle.texts.specs.Text.{decimalOf}
+use Rattle.texts.specs.Text.{decimalOf, lineIf}
 use Rattle.graphs.specs.Shapes.{problemFront, edgeFront}
 use Rattle.graphs.specs.Edges.{Ends, hasEdge}
 use Rattle.graphs.specs.Scans.{cellOf, cells}
@@ -47,10 +47,6 @@ abbrev pub flagged : List ℕ → ℕ → ℕ → Bool
 flagged s a b = eqb (getD s (cellOf a b) 0) 1
 
 -- the line of one cell: none where it has no edge
-abbrev pub lineIf : Bool → List ℕ → List ℕ
-lineIf true l = l
-lineIf false l = []
-
 abbrev pub cellLine : (ℕ → ℕ → Bool) → ℕ → List ℕ
 cellLine h c = lineIf (cellHas h c) (edgeLine (c / 21) (c % 21))
 

@@ -5,6 +5,7 @@ mod number_calls;
 mod record_calls;
 mod search_calls;
 mod table_calls;
+mod tidy_calls;
 
 pub use graph_calls::vayudrit_read_graph;
 pub use number_calls::vayudrit_balanced;
@@ -18,3 +19,4 @@ pub use table_calls::vayudrit_coefficients;
 pub use table_calls::vayudrit_differences;
 pub use table_calls::vayudrit_evaluate;
 pub use table_calls::vayudrit_pack;
+pub use tidy_calls::vayudrit_tidy;
