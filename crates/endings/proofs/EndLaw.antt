@@ -9,7 +9,7 @@ use lib.ListN.{length, take}
 use borrow.Author.Tests.{eq-eqb}
 use Rattle.texts.specs.Text.{lineIf}
 use Rattle.endings.specs.declared.Ending.{Ending}
-use Rattle.endings.specs.Endings.{Ends, toldIf, Concludes, Delivers}
+use Rattle.endings.specs.Endings.{Tells, toldIf, Concludes, Delivers}
 
 and-false : (x : Bool) → x && false ≡ false
 and-false true = refl
@@ -36,7 +36,7 @@ delivered k all sent r e h =
     record { told = h .told ∙ ap (λ (x : Bool). toldIf (x && r .closed) k) (sym (ap (λ (j : ℕ). eqb j all) (h .sent) ∙ eq-eqb sent all e)) }
 
 -- the line that stands in the text told of
-pub line-ends : (k all : ℕ) (line b : List ℕ) (r : Ending) → Delivers k all r → k ≤ length b → take k b ≡ line → Ends all line b r
+pub line-ends : (k all : ℕ) (line b : List ℕ) (r : Ending) → Delivers k all r → k ≤ length b → take k b ≡ line → Tells all line b r
 line-ends k all line b r h l e =
     record {
       fits = rw (h .told) (fits-if (eqb (r .sent) all && r .closed) k (length b) l);

@@ -14,7 +14,7 @@ abbrev pub endedLine : List ℕ
 endedLine = 101 ∷ 110 ∷ 100 ∷ 101 ∷ 100 ∷ 10 ∷ []
 
 -- the line is told exactly if the output's bytes, so many, were all taken and it could be closed; nothing is told otherwise
-pub record Ends (all : ℕ) (line b : List ℕ) (r : Ending) : Type 0 where
+pub record Tells (all : ℕ) (line b : List ℕ) (r : Ending) : Type 0 where
   pub fits : r .told ≤ length b
   pub told : take (r .told) b ≡ lineIf (eqb (r .sent) all && r .closed) line
 

@@ -26,7 +26,7 @@ use Rattle.tidying.specs.Tidy.{edgeLine, edgesText, keep, cellHas, tidyFrom}
 use Rattle.tidying.proofs.TidyLaw.{tidy-more}
 use Rattle.tallies.specs.Tallies.{sumLines}
 use Rattle.tallies.proofs.TallyLaw.{sum-none, sum-cons}
-use Rattle.reread.proofs.ShapeLaw.{bodyOf, edge-cut, edge-shape}
+use Rattle.reread.proofs.ShapeLaw.{bodyOf, edge-cut, edge-shape, edge-short}
 
 abbrev cellEnds : ℕ → Ends
 cellEnds c = record { one = c / 21; other = c % 21 }
@@ -99,6 +99,24 @@ module _ (h : ℕ → ℕ → Bool) (f : Shape → ℕ) (w : ℕ) (each : (a b :
           ∙ ap₂ (λ (a b : ℕ). a + b) (ap f (cell-shape h c k (omega arith)) ∙ each (c / 21) (c % 21) (ltb-true _ _ (and-first (ltb (c / 21) (c % 21)) (h (c / 21) (c % 21)) e))) r
           ∙ next w (length (tidyFrom h (suc c) k))
           ∙ sym (ap (λ (es : List Ends). w * length es) (cells-on h c k e))
+
+-- ---- how long they are
+module _ (h : ℕ → ℕ → Bool) where
+  pub cells-short : (c k : ℕ) → c + k ≤ cells → length (edgesText (tidyFrom h c k)) ≤ 8 * length (tidyFrom h c k)
+  cells-short c zero l = rw (cells-none h c, text-none) (omega arith)
+  cells-short c (suc k) l = by-test (cellHas h c) refl (cells-short (suc c) k (omega arith))
+    where
+      sum : (a b n w : ℕ) → w ≡ a + b → a ≤ 8 → b ≤ 8 * n → w ≤ 8 * suc n
+      sum a b n w p q r = omega arith
+
+      by-test : (q : Bool) → cellHas h c ≡ q → length (edgesText (tidyFrom h (suc c) k)) ≤ 8 * length (tidyFrom h (suc c) k)
+          → length (edgesText (tidyFrom h c (suc k))) ≤ 8 * length (tidyFrom h c (suc k))
+      by-test false e r = rw (cells-off h c k e) r
+      by-test true e r =
+          rw (cells-on h c k e)
+          (sum (length (edgeLine (c / 21) (c % 21))) (length (edgesText (tidyFrom h (suc c) k))) (length (tidyFrom h (suc c) k)) _
+          (ap length (text-cons (cellEnds c) (tidyFrom h (suc c) k)) ∙ length-append (edgeLine (c / 21) (c % 21)) (edgesText (tidyFrom h (suc c) k)))
+          (edge-short (c / 21) (c % 21) (omega arith) (omega arith)) r)
 
 -- ---- reading them
 -- an e line that is taken: it fits, is new, and there is room

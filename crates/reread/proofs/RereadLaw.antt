@@ -7,7 +7,7 @@ use Prim.Native.Nat.{ℕ, _+_, _*_, _≤_, _<_}
 use native.Mathlib.Decide.{decLt}
 use native.Mathlib.Omega.{arith}
 use lib.Dec.{ltb}
-use lib.ListN.{length, take, drop}
+use lib.ListN.{length, take, drop, length-append}
 use lib.Seq.{take-append-seam}
 use borrow.Author.Tests.{le-ltb}
 use Rattle.refusals.specs.declared.Verdict.{Verdict}
@@ -33,9 +33,9 @@ use Rattle.exchange.specs.Answers.{tidied, answerOf, outAfter}
 use Rattle.exchange.specs.declared.TidyAnswer.{TidyAnswer}
 use Rattle.exchange.specs.declared.TidyAnswer.the-variants as answer
 use Rattle.exchange.proofs.AnswerLaw.{tidied-fits, after-graph}
-use Rattle.reread.specs.Reread.{Reread}
-use Rattle.reread.proofs.ShapeLaw.{bodyOf, problem-cut, problem-shape, text-short}
-use Rattle.reread.proofs.CellLaw.{cells-sum, read-cells}
+use Rattle.reread.specs.Reread.{tidyMost, Reread}
+use Rattle.reread.proofs.ShapeLaw.{bodyOf, problem-cut, problem-shape, problem-short}
+use Rattle.reread.proofs.CellLaw.{cells-sum, cells-short, read-cells}
 
 text-is : (v : ℕ) (es : List Ends) → graphText v es ≡ problemLine v (length es) ++ edgesText es
 unfolding graphText
@@ -81,11 +81,17 @@ module _ (t : List ℕ) (v : ℕ) (es : List Ends) (o : outcomeOf t wordsLeast �
       (ap (takeLine start) p-shape ∙ declares v e (d .least) (d .most) (omega (arith, count, d .some)) (omega (arith, few)))
       ∙ read-cells (hasEdge es) v e (λ a b q. has-edged v es d a b q) few 0 cells (1 + 1) 0 [] (omega arith) refl (λ i j l m n. has-none i j) (omega arith)
 
-  short : length (tidyText v es) ≤ 32768
-  short = omega (arith, text-short v (tidyOf (hasEdge es)), few)
+  most : length (tidyText v es) ≤ tidyMost
+  most =
+      sum (length (problemLine v e)) (length (edgesText (tidyOf (hasEdge es)))) e _
+      (ap length (text-is v (tidyOf (hasEdge es))) ∙ length-append (problemLine v e) (edgesText (tidyOf (hasEdge es))))
+      (problem-short v e v-small e-small) (cells-short (hasEdge es) 0 cells (omega arith)) few
+    where
+      sum : (a b n w : ℕ) → w ≡ a + b → a ≤ 13 → b ≤ 8 * n → n ≤ 64 → w ≤ 525
+      sum a b n w p q r f = omega arith
 
   read : outcomeOf (tidyText v es) wordsLeast ≡ graph v (tidyOf (hasEdge es))
-  read = outcome-lines (tidyText v es) wordsLeast short (omega arith) ∙ read-lines
+  read = outcome-lines (tidyText v es) wordsLeast (omega (arith, most)) (omega arith) ∙ read-lines
 
   -- the same set
   inside : (a b : ℕ) → Edged v (record { one = a; other = b }) → hasEdge (tidyOf (hasEdge es)) a b ≡ hasEdge es a b
@@ -145,6 +151,7 @@ module _ (t : List ℕ) (v : ℕ) (es : List Ends) (o : outcomeOf t wordsLeast �
         read = read;
         same = same;
         count = count;
+        most = most;
         front = λ old. ap (take (length (tidyText v es))) (after-graph v es old) ∙ take-append-seam (tidyText v es) (drop (length (tidyText v es)) old);
         again = λ room l. tidied-fits (tidyText v es) room v (tidyOf (hasEdge es)) read (omega (arith, ap length text-same));
         bytes = λ old.

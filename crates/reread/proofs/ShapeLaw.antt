@@ -1,21 +1,20 @@
--- The lines of a tidied text, one by one: what stands in each, and how long all are.
+-- The lines of a tidied text, one by one: what stands in each, and how long it is.
 use mathlib.Core.Path.{_≡_, refl, sym, ap, ap₂, _∙_}
-use mathlib.Core.Bool.{Bool, true, false, _||_}
+use mathlib.Core.Bool.{Bool, false, _||_}
 use mathlib.Core.List.{List, [], _∷_, _++_, append-assoc}
-use Prim.Native.Nat.{ℕ, suc, _+_, _*_, _≤_, _<_}
+use Prim.Native.Nat.{ℕ, suc, _+_, _≤_, _<_}
 use native.Mathlib.Omega.{arith}
 use lib.ListN.{length, length-append}
-use Rattle.lines.specs.Lines.{has, starts, linesOf, isComment}
+use Rattle.lines.specs.Lines.{has, starts, linesOf}
 use Rattle.lines.proofs.LineLaw.{comment-none}
 use Rattle.lines.proofs.ReturnLaw.{has-next, has-append}
 use Rattle.lines.proofs.WrittenLaw.{lines-written, pair-written}
 use Rattle.graphs.specs.declared.shapes.Shape.the-variants.{Problem, Edge}
 use Rattle.graphs.specs.Shapes.{problemFront, edgeFront, asProblem, asEdge, shapeOf}
-use Rattle.graphs.specs.Edges.{Ends}
 use Rattle.graphs.proofs.ShapeLaw.{shape-problem, shape-edge}
 use Rattle.texts.specs.Text.{decimalOf}
-use Rattle.tidying.specs.Tidy.{problemLine, edgeLine, edgesText, graphText}
-use Rattle.reread.proofs.SpeltLaw.{Spelt, spelt, decimal-short}
+use Rattle.tidying.specs.Tidy.{problemLine, edgeLine}
+use Rattle.reread.proofs.SpeltLaw.{Spelt, spelt}
 
 -- a line of two numbers, without its line feed
 abbrev pub bodyOf : List ℕ → ℕ → ℕ → List ℕ
@@ -64,30 +63,17 @@ module _ (a b : ℕ) (l : a < 100) (m : b < 100) where
       sym (shape-edge (bodyOf edgeFront a b) (sym (comment-none (bodyOf edgeFront a b) refl (λ e. omega arith))) refl refl)
       ∙ ap asEdge (pair-written (decimalOf a) (decimalOf b) a b (s .no-space) (s .value) (t .value))
 
--- ---- lengths
-line-short : (f : List ℕ) (a b : ℕ) → length (f ++ (decimalOf a ++ ((32 ∷ []) ++ (decimalOf b ++ (10 ∷ []))))) ≤ length f + 42
-line-short f a b =
-    let n1 = length-append f (decimalOf a ++ ((32 ∷ []) ++ (decimalOf b ++ (10 ∷ [])))) in
-    let n2 = length-append (decimalOf a) ((32 ∷ []) ++ (decimalOf b ++ (10 ∷ []))) in
-    let n3 = length-append (decimalOf b) (10 ∷ []) in
-    sum (length f) (length (decimalOf a)) (length (decimalOf b)) _ _ _ n1 n2 n3 (decimal-short 20 a) (decimal-short 20 b)
-  where
-    sum : (f x y w u z : ℕ) → w ≡ f + u → u ≡ x + suc z → z ≡ y + 1 → x ≤ 20 → y ≤ 20 → w ≤ f + 42
-    sum f x y w u z p q r g h = omega arith
+  -- ---- lengths
+  line-short : (f : List ℕ) → length (f ++ (decimalOf a ++ ((32 ∷ []) ++ (decimalOf b ++ (10 ∷ []))))) ≤ length f + 6
+  line-short f =
+      sum (length f) (length (decimalOf a)) (length (decimalOf b)) _ _ _ (length-append f (decimalOf a ++ ((32 ∷ []) ++ (decimalOf b ++ (10 ∷ [])))))
+      (length-append (decimalOf a) ((32 ∷ []) ++ (decimalOf b ++ (10 ∷ [])))) (length-append (decimalOf b) (10 ∷ [])) (s .short) (t .short)
+    where
+      sum : (f x y w u z : ℕ) → w ≡ f + u → u ≡ x + suc z → z ≡ y + 1 → x ≤ 2 → y ≤ 2 → w ≤ f + 6
+      sum f x y w u z p q r g h = omega arith
 
-edges-short : (es : List Ends) → length (edgesText es) ≤ 44 * length es
-unfolding edgesText
-edges-short [] = omega arith
-edges-short (x ∷ es) =
-    sum (length (edgeLine (x .one) (x .other))) (length (edgesText es)) (length es) _ (length-append (edgeLine (x .one) (x .other)) (edgesText es)) (line-short edgeFront (x .one) (x .other)) (edges-short es)
-  where
-    sum : (a b n w : ℕ) → w ≡ a + b → a ≤ 44 → b ≤ 44 * n → w ≤ 44 * suc n
-    sum a b n w p q r = omega arith
+  pub problem-short : length (problemLine a b) ≤ 13
+  problem-short = line-short problemFront
 
-pub text-short : (v : ℕ) (es : List Ends) → length (graphText v es) ≤ 49 + 44 * length es
-unfolding graphText
-text-short v es =
-    sum (length (problemLine v (length es))) (length (edgesText es)) (length es) _ (length-append (problemLine v (length es)) (edgesText es)) (line-short problemFront v (length es)) (edges-short es)
-  where
-    sum : (a b n w : ℕ) → w ≡ a + b → a ≤ 49 → b ≤ 44 * n → w ≤ 49 + 44 * n
-    sum a b n w p q r = omega arith
+  pub edge-short : length (edgeLine a b) ≤ 8
+  edge-short = line-short edgeFront

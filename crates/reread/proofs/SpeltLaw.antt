@@ -1,27 +1,26 @@
 -- Numbers of one or two digits, as they are written, are read.
 use mathlib.Core.Path.{_≡_, refl, sym, ap, _∙_}
-use mathlib.Core.Bool.{Bool, true, false, _&&_}
+use mathlib.Core.Bool.{false}
 use mathlib.Core.List.{List, [], _∷_, _++_}
 use mathlib.Core.Logic.{by-cases}
-use Prim.Native.Nat.{ℕ, zero, suc, _+_, _-_, _*_, _/_, _%_, _≤_, _<_}
+use Prim.Native.Nat.{ℕ, _+_, _-_, _*_, _/_, _%_, _≤_, _<_}
 use native.Mathlib.Decide.{decLt}
 use native.Mathlib.Omega.{arith}
-use lib.Dec.{eqb, ltb}
-use lib.ListN.{length, length-append}
+use lib.ListN.{length}
 use borrow.Author.Tests.{ne-eqb}
-use Rattle.lines.specs.declared.Number.{Number}
 use Rattle.lines.specs.declared.Number.the-variants as number
 use Rattle.lines.specs.Lines.{has, numberIn}
 use Rattle.lines.proofs.LineLaw.{decimal-next, decimal-end, number-plain}
 use Rattle.lines.proofs.ReturnLaw.{has-none, has-next}
-use Rattle.texts.specs.Text.{decimalIn, decimalOf}
+use Rattle.texts.specs.Text.{decimalOf}
 use Rattle.texts.proofs.TextLaw.{decimal-one, decimal-more}
 
--- bytes that write a number, with neither a space nor a line feed among them
+-- at most two bytes that write a number, with neither a space nor a line feed among them
 pub record Spelt (x : ℕ) (s : List ℕ) : Type 0 where
   pub value : numberIn s ≡ number.Value x
   pub no-space : has 32 s ≡ false
   pub no-feed : has 10 s ≡ false
+  pub short : length s ≤ 2
 
 -- a digit is no such byte
 digit-not : (b d : ℕ) (s : List ℕ) → b < 48 → has b s ≡ false → has b ((48 + d) ∷ s) ≡ false
@@ -37,6 +36,7 @@ one x l =
           ∙ ap number.Value (let z : 10 * 0 + ((48 + x) - 48) ≡ x = omega arith in z);
       no-space = digit-not 32 x [] (omega arith) (has-none 32);
       no-feed = digit-not 10 x [] (omega arith) (has-none 10);
+      short = omega arith;
     }
   where
     s : List ℕ
@@ -53,6 +53,7 @@ two x y g l m =
           ∙ ap number.Value (let z : 10 * (10 * 0 + ((48 + x) - 48)) + ((48 + y) - 48) ≡ 10 * x + y = omega arith in z);
       no-space = digit-not 32 x ((48 + y) ∷ []) (omega arith) (digit-not 32 y [] (omega arith) (has-none 32));
       no-feed = digit-not 10 x ((48 + y) ∷ []) (omega arith) (digit-not 10 y [] (omega arith) (has-none 10));
+      short = omega arith;
     }
   where
     s : List ℕ
@@ -69,13 +70,3 @@ spelt x m =
     let l : 10 ≤ x = omega arith in
     let e : 10 * (x / 10) + x % 10 ≡ x = omega arith in
     rw (two-digits x l m) (rw e at (two (x / 10) (x % 10) (omega arith) (omega arith) (omega arith))))
-
--- ---- and are short
-pub decimal-short : (k x : ℕ) → length (decimalIn k x) ≤ k
-unfolding decimalIn
-decimal-short zero x = omega arith
-decimal-short (suc k) x = by-test (ltb x 10) (decimal-short k (x / 10))
-  where
-    by-test : (q : Bool) → length (decimalIn k (x / 10)) ≤ k → length {A = ℕ} (elim q [ true ↦ (48 + x) ∷ [] | false ↦ decimalIn k (x / 10) ++ ((48 + x % 10) ∷ []) ]) ≤ suc k
-    by-test true h = omega arith
-    by-test false h = omega (arith, length-append (decimalIn k (x / 10)) ((48 + x % 10) ∷ []), h)

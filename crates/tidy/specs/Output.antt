@@ -8,7 +8,7 @@ use Rattle.graphs.specs.Reading.{wordsLeast, Outcome, graph, refused, outcomeOf
 use Rattle.texts.specs.Text.{refusalLine}
 use Rattle.tidying.specs.Tidy.{tidyText}
 use Rattle.exchange.specs.Answers.{answerOf}
-use Rattle.endings.specs.Endings.{endedLine, Ends}
+use Rattle.endings.specs.Endings.{endedLine, Tells}
 use Rattle.tidy.specs.declared.Ran.{Ran}
 
 -- the whole output: the tidied text; or the refusal and its line
@@ -30,4 +30,4 @@ toldOf text = toldFor (outcomeOf text wordsLeast)
 -- a run on an input, after which b is the text told of: what it says in words is the answer, which never is that the output is too short
 pub record Runs (input b : List ℕ) (r : Ran) : Type 0 where
   pub answer : r .answer ≡ answerOf input (outcomeOf input wordsLeast)
-  pub ends : Ends (length (outputOf input)) (toldOf input) b (r .ending)
+  pub ends : Tells (length (outputOf input)) (toldOf input) b (r .ending)

@@ -8,10 +8,11 @@ use libc::STDIN_FILENO;
 use streams::Input;
 ghost use mathlib.Core.Path.{_≡_};
 ghost use lib.ListN.{length};
+ghost use Rattle.reread.specs.Reread.{tidyMost};
 ghost use Rattle.tidy.specs.Output.{Runs};
 
-// The bytes of the output: more than the longest text has.
-const OUT_BYTES: usize = 4096;
+// The bytes of the output: as many as the longest text has.
+const OUT_BYTES: usize = 525;
 
 // The bytes of the text that is told of.
 const TEXT_BYTES: usize = 64;
@@ -24,7 +25,7 @@ struct Ran {
 
 // The whole output for an input, and its end.
 fn run(input: &[u8], out: &mut [u8], text: &mut [u8]) -> Ran
-    requires { ⌜ (length (now out) ≡ 4096) × (length (now text) ≡ 64) ⌝ }
+    requires { ⌜ (length (now out) ≡ tidyMost) × (length (now text) ≡ 64) ⌝ }
     ensures { λ r. ⌜ Runs (now (input .entry)) (now (text .exit)) r ⌝ }
 {
     let answer = exchange::tidy(input, out);

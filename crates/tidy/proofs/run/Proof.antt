@@ -1,89 +1,113 @@
+-- `tidy::run` meets its contract: the line is told exactly if the whole output was taken.
+use mathlib.Core.Path.{sym, ap, _∙_}
+use Prim.Native.Nat.{ℕ}
+use native.Mathlib.Omega.{arith}
+use lib.ListN.{length}
+use lib.Seq.{length-take-le}
+use Rattle.graphs.specs.Reading.{wordsLeast, Outcome, outcomeOf}
+use Rattle.texts.specs.Text.{refusalLine}
+use Rattle.exchange.specs.Answers.{answerOf, outAfter}
+use Rattle.tidy.proofs.RunLaw.{never-short, wrote, refused-line, run-ends}
 use borrow.Author.Needs.{needs}
 use Rattle.tidy.proofs.run.Statement.{statement}
 use Rattle.tidy.proofs.run.Tie as tie
-use Rattle.tidy.proofs.run.Reads as reads
-use Rattle.tidy.proofs.run.Lts as lts
-use Rattle.endings.proofs.deliver.Reads as deliver-reads
-use Rattle.exchange.proofs.tidy.Reads as tidy-reads
-use Rattle.refusals.proofs.number.Reads as number-reads
-use Rattle.texts.proofs.put.Reads as put-reads
-use Rattle.texts.proofs.put_refusal.Reads as put-refusal-reads
 
--- src/main.rt:30:9
 tidy-requires : tie.Need-tidy-requires
 tidy-requires c κs = search needs
 
--- src/main.rt:32:30
 enum-known-answer : tie.Need-enum-known-answer
 enum-known-answer c = search needs
 
--- src/main.rt:34:44
 slice-aggregate-put : tie.Need-slice-aggregate-put
 slice-aggregate-put c = search needs
 
--- src/main.rt:34:17
 put-requires : tie.Need-put-requires
 put-requires c κs = search needs
 
--- src/main.rt:35:43
 slice-reshare-prefix-deliver : tie.Need-slice-reshare-prefix-deliver
-slice-reshare-prefix-deliver c = ?
+slice-reshare-prefix-deliver c =
+    let a = c .before .before .before .before .before .before .before .before .before .before .before .before .before .before .before .args in
+    let t = a .input .now in
+    let y = c .before .before .before .before .before .before .before .before .before .before .tidy in
+    let s = never-short t (length (a .out .now)) (omega (arith, c .before .before .before .before .before .before .before .before .before .before .before .before .before .before .before .pre .0)) in
+    let e = sym (c .before .before .before .before .before .before .answer .given .1) ∙ y .ensures .0 ∙ ap (answerOf t) s in
+    let w = wrote t (outcomeOf t wordsLeast) _ _ _ _ (a .out .now) (y .last .1 .0) e (y .ensures .1 ∙ ap (λ (o : Outcome). outAfter o (a .out .now)) s) in
+    w .fits
 
--- src/main.rt:35:43
 slice-aggregate-deliver : tie.Need-slice-aggregate-deliver
-slice-aggregate-deliver c = ?
+slice-aggregate-deliver c =
+    let a = c .before .before .before .before .before .before .before .before .before .before .before .before .before .before .before .before .args in
+    let t = a .input .now in
+    let y = c .before .before .before .before .before .before .before .before .before .before .before .tidy in
+    let s = never-short t (length (a .out .now)) (omega (arith, c .before .before .before .before .before .before .before .before .before .before .before .before .before .before .before .before .pre .0)) in
+    let e = sym (c .before .before .before .before .before .before .before .answer .given .1) ∙ y .ensures .0 ∙ ap (answerOf t) s in
+    let w = wrote t (outcomeOf t wordsLeast) _ _ _ _ (a .out .now) (y .last .1 .0) e (y .ensures .1 ∙ ap (λ (o : Outcome). outAfter o (a .out .now)) s) in
+    sym (length-take-le _ (y .last .1 .0) (w .fits))
 
--- src/main.rt:35:17
 deliver-requires : tie.Need-deliver-requires
 deliver-requires c κs = search needs
 
--- src/main.rt:38:31
 enum-known-answer-2 : tie.Need-enum-known-answer-2
 enum-known-answer-2 c = search needs
 
--- src/main.rt:39:17
 number-requires : tie.Need-number-requires
 number-requires c κs = search needs
 
--- src/main.rt:40:17
 put-refusal-requires : tie.Need-put-refusal-requires
 put-refusal-requires c κs = search needs
 
--- src/main.rt:41:43
 slice-reshare-prefix-deliver-2 : tie.Need-slice-reshare-prefix-deliver-2
 slice-reshare-prefix-deliver-2 c = search needs
 
--- src/main.rt:41:43
 slice-aggregate-deliver-2 : tie.Need-slice-aggregate-deliver-2
-slice-aggregate-deliver-2 c = ?
+slice-aggregate-deliver-2 c =
+    let p = c .before .before .before .put-refusal in
+    sym (length-take-le (p .result) (p .last .0) (omega (arith, p .ensures .0 .size, p .ensures .1, c .before .before .before .before .before .before .before .before .before .before .before .before .before .before .before .before .pre .1)))
 
--- src/main.rt:41:17
 deliver-requires-2 : tie.Need-deliver-requires-2
 deliver-requires-2 c κs = search needs
 
--- src/main.rt:26:1
 same-length : tie.Need-same-length
 same-length c = search needs
 
--- src/main.rt:26:1
 same-length-2 : tie.Need-same-length-2
 same-length-2 c = search needs
 
--- src/main.rt:26:1
 returns : tie.Need-returns
-returns c = ?
+returns c =
+    let a = c .before .before .before .before .before .before .before .before .before .before .before .before .before .before .before .before .before .args in
+    let t = a .input .now in
+    let y = c .before .before .before .before .before .before .before .before .before .before .before .before .tidy in
+    let s = never-short t (length (a .out .now)) (omega (arith, c .before .before .before .before .before .before .before .before .before .before .before .before .before .before .before .before .before .pre .0)) in
+    let e = sym (c .before .before .before .before .before .before .before .before .answer .given .1) ∙ y .ensures .0 ∙ ap (answerOf t) s in
+    let w = wrote t (outcomeOf t wordsLeast) _ _ _ _ (a .out .now) (y .last .1 .0) e (y .ensures .1 ∙ ap (λ (o : Outcome). outAfter o (a .out .now)) s) in
+    let p = c .before .before .before .before .put in
+    record {
+      answer = e;
+      ends = run-ends t _ (p .result) _ (a .text .now) (p .last .0) (c .deliver .result) (w .front) (w .told) (p .ensures) (omega (arith, p .ensures .next, c .before .before .before .before .before .before .before .before .before .before .before .before .before .before .before .before .before .pre .1)) (c .deliver .ensures);
+    }
 
--- src/main.rt:26:1
 same-length-3 : tie.Need-same-length-3
 same-length-3 c = search needs
 
--- src/main.rt:26:1
 same-length-4 : tie.Need-same-length-4
 same-length-4 c = search needs
 
--- src/main.rt:26:1
 returns-2 : tie.Need-returns-2
-returns-2 c = ?
+returns-2 c =
+    let a = c .before .before .before .before .before .before .before .before .before .before .before .before .before .before .before .before .before .args in
+    let t = a .input .now in
+    let y = c .before .before .before .before .before .before .before .before .before .before .before .before .tidy in
+    let s = never-short t (length (a .out .now)) (omega (arith, c .before .before .before .before .before .before .before .before .before .before .before .before .before .before .before .before .before .pre .0)) in
+    let e = sym (c .before .before .before .before .before .before .before .before .answer2 .given .1) ∙ y .ensures .0 ∙ ap (answerOf t) s in
+    let p = c .before .before .before .before .put-refusal in
+    let n = c .before .before .before .before .before .before .number in
+    let q = refused-line t (outcomeOf t wordsLeast) _ _ e in
+    let same = ap (λ (k : ℕ). refusalLine k (c .before .before .before .before .before .before .before .before .answer2 .given .0 .1 .0)) (n .ensures .0) in
+    record {
+      answer = e;
+      ends = run-ends t _ (p .result) _ (a .text .now) (p .last .0) (c .deliver2 .result) (p .ensures .0 .front ∙ same ∙ q .0) (same ∙ q .1) (p .ensures .0) (omega (arith, p .ensures .1, c .before .before .before .before .before .before .before .before .before .before .before .before .before .before .before .before .before .pre .1)) (c .deliver2 .ensures);
+    }
 
 pub run-spec : {M : Type 1} → statement M
 run-spec =
