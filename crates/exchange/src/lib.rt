@@ -11,7 +11,9 @@ use texts::put;
 use tidying::put_tidy;
 ghost use mathlib.Core.Path.{_≡_};
 ghost use Prim.Native.Nat.{_≤_};
+ghost use lib.Dec.{ltb};
 ghost use lib.ListN.{length};
+ghost use Rattle.refusals.specs.Choice.{pick};
 ghost use Rattle.graphs.specs.Reading.{textMost};
 ghost use Rattle.exchange.specs.Answers.{tidied, answerOf, outAfter, Answers, callOf, codeOf, toldAfter, Reads};
 
@@ -36,6 +38,16 @@ pub enum TidyAnswer {
     },
 }
 
+// How many bytes are written of a text of so many, into an output with so much room: all or none.
+fn whole(used: usize, room: usize) -> usize
+    ensures { λ r. ⌜ (r ≡ pick (ltb room used) 0 used) × (r ≤ used) × (r ≤ room) ⌝ }
+{
+    if room < used {
+        return 0;
+    }
+    used
+}
+
 // A text that was read to a graph of v vertices and e edges, written back.
 fn write_back(text: &[u8], out: &mut [u8], v: u64, e: u64, seen: &[u8; 441]) -> TidyAnswer
     requires { ⌜ (length (now text) ≤ textMost) × Reads (now text) v e (now seen) ⌝ }
@@ -43,7 +55,9 @@ fn write_back(text: &[u8], out: &mut [u8], v: u64, e: u64, seen: &[u8; 441]) -> 
 {
     let mut page = [0u8; PAGE];
     let used = put_tidy(&mut page, v, e, seen);
-    if out.len() < used {
+    let part = whole(used, out.len());
+    put(out, 0, &page[..part]);
+    if part < used {
         return TidyAnswer::Refused {
             why: Refusal::Room,
             line: 0,
@@ -51,7 +65,6 @@ fn write_back(text: &[u8], out: &mut [u8], v: u64, e: u64, seen: &[u8; 441]) -> 
     }
     let t = count_lines(text);
     let repeated = t.edges - e;
-    put(out, 0, &page[..used]);
     TidyAnswer::Tidied {
         bytes: used as u64,
         comments: t.comments,
