@@ -1,6 +1,6 @@
 -- Numbers and a refusal as bytes, and bytes put into a text.
 use mathlib.Core.Path.{_≡_}
-use mathlib.Core.Bool.{true, false}
+use mathlib.Core.Bool.{Bool, true, false}
 use mathlib.Core.List.{List, [], _∷_, _++_}
 use Prim.Native.Nat.{ℕ, zero, suc, _+_, _/_, _%_}
 use lib.Dec.{ltb}
@@ -23,6 +23,15 @@ refusalLine r k =
 -- and the most bytes of one: two numbers of at most 20 digits
 abbrev pub longestRefusal : ℕ
 longestRefusal = 55
+
+-- a line where a test holds, else nothing
+abbrev pub lineIf : Bool → List ℕ → List ℕ
+lineIf true l = l
+lineIf false l = []
+
+-- "ended": what a program tells of a run that wrote everything
+abbrev pub endedLine : List ℕ
+endedLine = 101 ∷ 110 ∷ 100 ∷ 101 ∷ 100 ∷ 10 ∷ []
 
 -- s was put into a text at byte `at`: all other bytes stay, and the next free byte is `end`
 pub record Put (old : List ℕ) (at : ℕ) (s : List ℕ) (new : List ℕ) (end : ℕ) : Type 0 where
