@@ -36,11 +36,11 @@ module _ (g : Given) where
   -- what nothing refuses: the table is checked, and nothing that was asked next refused it
   pub done-first : (v : Verdict) → tableVerdict g v ≡ Done → Checked g
   done-first v e =
-      let a = long-done (g .n) (g .words) (paired (g .n) (g .m) (g .words) v) (sized-done (g .n) (g .m) (long (g .n) (g .words) (paired (g .n) (g .m) (g .words) v)) e) in
+      let a = long-done (countOf (g .n)) (g .words) (paired (g .n) (g .m) (g .words) v) (sized-done (g .n) (g .m) (long (g .n) (g .words) (paired (g .n) (g .m) (g .words) v)) e) in
       accepted-iff (g .n) (g .m) (g .words) .1
       (record {
         sizes = sized-within (g .n) (g .m) (long (g .n) (g .words) (paired (g .n) (g .m) (g .words) v)) e;
-        table = paired-done (g .n) (g .m) (g .words) v (a .0) (a .1) .0;
+        table = paired-done (countOf (g .n)) (g .m) (g .words) v (a .0) (a .1) .0;
       })
 
   pub done-next : (v : Verdict) → tableVerdict g v ≡ Done → v ≡ Done
