@@ -15,10 +15,13 @@ decimalIn (suc k) x = elim (ltb x 10) [ true ↦ (48 + x) ∷ [] | false ↦ dec
 abbrev pub decimalOf : ℕ → List ℕ
 decimalOf x = decimalIn 20 x
 
+-- a line of two numbers, with these bytes before the first and before the second
+abbrev pub pairLine : List ℕ → ℕ → List ℕ → ℕ → List ℕ
+pairLine front one mid other = front ++ (decimalOf one ++ (mid ++ (decimalOf other ++ (10 ∷ []))))
+
 -- "refused R line K"
 unfoldable pub refusalLine : ℕ → ℕ → List ℕ
-refusalLine r k =
-    (114 ∷ 101 ∷ 102 ∷ 117 ∷ 115 ∷ 101 ∷ 100 ∷ 32 ∷ []) ++ (decimalOf r ++ ((32 ∷ 108 ∷ 105 ∷ 110 ∷ 101 ∷ 32 ∷ []) ++ (decimalOf k ++ (10 ∷ []))))
+refusalLine r k = pairLine (114 ∷ 101 ∷ 102 ∷ 117 ∷ 115 ∷ 101 ∷ 100 ∷ 32 ∷ []) r (32 ∷ 108 ∷ 105 ∷ 110 ∷ 101 ∷ 32 ∷ []) k
 
 -- and the most bytes of one: two numbers of at most 20 digits
 abbrev pub longestRefusal : ℕ

@@ -4,17 +4,17 @@ use mathlib.Core.List.{List, [], _∷_, _++_}
 use Prim.Native.Nat.{ℕ, zero, suc, _+_, _*_, _/_, _%_}
 use lib.Dec.{eqb, ltb}
 use lib.ListN.{length, getD}
-use Rattle.texts.specs.Text.{decimalOf, lineIf}
+use Rattle.texts.specs.Text.{pairLine, lineIf}
 use Rattle.graphs.specs.Shapes.{problemFront, edgeFront}
 use Rattle.graphs.specs.Edges.{Ends, hasEdge}
 use Rattle.graphs.specs.Scans.{cellOf, cells}
 
 -- "p edge V E" and "e A B", each with its line feed
 abbrev pub problemLine : ℕ → ℕ → List ℕ
-problemLine v e = problemFront ++ (decimalOf v ++ ((32 ∷ []) ++ (decimalOf e ++ (10 ∷ []))))
+problemLine v e = pairLine problemFront v (32 ∷ []) e
 
 abbrev pub edgeLine : ℕ → ℕ → List ℕ
-edgeLine a b = edgeFront ++ (decimalOf a ++ ((32 ∷ []) ++ (decimalOf b ++ (10 ∷ []))))
+edgeLine a b = pairLine edgeFront a (32 ∷ []) b
 
 -- the text of a graph: its p line, and a line for each edge
 unfoldable pub edgesText : List Ends → List ℕ

@@ -1,37 +1,12 @@
 // A graph file written back tidied: the p line, then each edge once, smaller vertex first, by its first and then its second vertex.
 // Contracts cite specs/Tidy.
-use texts::put;
-use texts::put_number;
+use texts::put_pair;
 ghost use mathlib.Core.Path.{_≡_};
 ghost use Prim.Native.Nat.{_+_, _*_, _≤_, _<_};
 ghost use lib.ListN.{length};
 ghost use Rattle.graphs.specs.Scans.{cells};
 ghost use Rattle.texts.specs.Text.{Put};
-ghost use Rattle.tidying.specs.Tidy.{problemLine, edgeLine, edgesText, flagged, cellHas, cellLine, tidyOf, pageMost, flagsText};
-
-// "p edge V E".
-fn put_problem(page: &mut [u8], v: u64, e: u64) -> usize
-    requires { ⌜ 49 ≤ length (now page) ⌝ }
-    ensures { λ r. ⌜ Put (now (page .entry)) 0 (problemLine v e) (now (page .exit)) r × (r ≤ 49) ⌝ }
-{
-    let a = put(page, 0, b"p edge ");
-    let b = put_number(page, a, v);
-    let c = put(page, b, b" ");
-    let d = put_number(page, c, e);
-    put(page, d, b"\n")
-}
-
-// "e A B".
-fn put_edge(page: &mut [u8], at: usize, a: u64, b: u64) -> usize
-    requires { ⌜ at + 44 ≤ length (now page) ⌝ }
-    ensures { λ r. ⌜ Put (now (page .entry)) at (edgeLine a b) (now (page .exit)) r × (r ≤ at + 44) ⌝ }
-{
-    let c = put(page, at, b"e ");
-    let d = put_number(page, c, a);
-    let e = put(page, d, b" ");
-    let f = put_number(page, e, b);
-    put(page, f, b"\n")
-}
+ghost use Rattle.tidying.specs.Tidy.{edgesText, flagged, cellHas, cellLine, tidyOf, pageMost, flagsText};
 
 // Whether cell c is that of an edge, smaller vertex first.
 fn cell_has(seen: &[u8; 441], c: usize) -> bool
@@ -52,7 +27,7 @@ fn put_cell(page: &mut [u8], at: usize, seen: &[u8; 441], c: usize) -> usize
     if cell_has(seen, c) {
         let a = (c / 21) as u64;
         let b = (c % 21) as u64;
-        return put_edge(page, at, a, b);
+        return put_pair(page, at, b"e ", a, b" ", b);
     }
     at
 }
@@ -76,6 +51,6 @@ pub fn put_tidy(page: &mut [u8], v: u64, e: u64, seen: &[u8; 441]) -> usize
     requires { ⌜ pageMost ≤ length (now page) ⌝ }
     ensures { λ r. ⌜ Put (now (page .entry)) 0 (flagsText v e (now (seen .entry))) (now (page .exit)) r × (r ≤ pageMost) ⌝ }
 {
-    let next = put_problem(page, v, e);
+    let next = put_pair(page, 0, b"p edge ", v, b" ", e);
     put_cells(page, next, seen)
 }

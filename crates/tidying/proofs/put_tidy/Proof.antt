@@ -5,8 +5,14 @@ use borrow.Author.Needs.{needs}
 use Rattle.tidying.proofs.put_tidy.Statement.{statement}
 use Rattle.tidying.proofs.put_tidy.Tie as tie
 
-put-problem-requires : tie.Need-put-problem-requires
-put-problem-requires c κs = search needs
+slice-aggregate-put-pair : tie.Need-slice-aggregate-put-pair
+slice-aggregate-put-pair c = search needs
+
+slice-aggregate-put-pair-2 : tie.Need-slice-aggregate-put-pair-2
+slice-aggregate-put-pair-2 c = search needs
+
+put-pair-requires : tie.Need-put-pair-requires
+put-pair-requires c κs = search needs
 
 put-cells-requires : tie.Need-put-cells-requires
 put-cells-requires c κs = search needs
@@ -16,9 +22,9 @@ same-length c = search needs
 
 returns : tie.Need-returns
 returns c =
-    let p = c .before .before .before .before .before .before .put-problem .ensures in
+    let p = c .before .before .before .before .before .before .put-pair .ensures in
     let q = c .before .before .put-cells .ensures in
     (put-join (p .0) (q .0), omega (arith, p .1, q .1))
 
 pub put-tidy-spec : {M : Type 1} → statement M
-put-tidy-spec = tie.close (tie.spec put-problem-requires put-cells-requires same-length returns)
+put-tidy-spec = tie.close (tie.spec slice-aggregate-put-pair slice-aggregate-put-pair-2 put-pair-requires put-cells-requires same-length returns)
