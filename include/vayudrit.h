@@ -33,7 +33,8 @@
  * Each function returns 0, or a refusal. A refusal alters no byte of any buffer. If several apply, the one of the
  * smallest number is returned: each is asked of all arguments before the next. A refusal r is its number, except that
  * of an illegal pair, which also tells the first entry that is none: 3 + 256 * entry, entries being numbered as the
- * monomials are, the constant 0; and except those of vayudrit_read_graph, which tell the line: number + 256 * line.
+ * monomials are, the constant 0; and except those of vayudrit_read_graph and vayudrit_tidy, which tell the line:
+ * number + 256 * line.
  * VAYUDRIT_NUMBER(r) is the number of any r, VAYUDRIT_ENTRY(r) the entry where that is 3, VAYUDRIT_LINE(r) the line of a
  * text.
  */
@@ -60,6 +61,8 @@ extern "C" {
 #define VAYUDRIT_ANSWER_BYTES 40
 #define VAYUDRIT_MAX_TEXT_BYTES 32768
 #define VAYUDRIT_GRAPH_WORDS 2
+#define VAYUDRIT_TIDY_WORDS 4
+#define VAYUDRIT_MAX_TIDY_BYTES 525 /* no tidied text is longer */
 
 /* What a function returns. */
 #define VAYUDRIT_DONE 0           /* nothing was refused */
@@ -73,7 +76,7 @@ extern "C" {
 #define VAYUDRIT_REFUSED_BUDGET 6 /* the budget is 0 */
 #define VAYUDRIT_REFUSED_LIST 7   /* the list has no entry */
 
-/* What vayudrit_read_graph returns, too: the number plus 256 times the line, counted from 1, or 0 where no line applies. */
+/* What vayudrit_read_graph and vayudrit_tidy return, too: the number plus 256 times the line, counted from 1, or 0 where no line applies. */
 #define VAYUDRIT_REFUSED_SHAPE 10  /* a line of no known shape */
 #define VAYUDRIT_REFUSED_ORDER 11  /* a second p line, an e line before the p line, or no p line at the end */
 #define VAYUDRIT_REFUSED_LIMITS 12 /* vertices not 1 to 20, or edges not 1 to 4,096 */
@@ -81,9 +84,10 @@ extern "C" {
 #define VAYUDRIT_REFUSED_COUNT 14  /* the number of e lines is not the declared one */
 #define VAYUDRIT_REFUSED_LONG 15   /* the text is above 32,768 bytes */
 #define VAYUDRIT_REFUSED_EDGES 16  /* the 65th different edge */
+#define VAYUDRIT_REFUSED_ROOM 18   /* the output is too short for the whole text (vayudrit_tidy alone) */
 
 /* A refusal taken apart: its number, 0 where nothing was refused; for VAYUDRIT_REFUSED_PAIR the illegal entry; and for
-   vayudrit_read_graph the line. */
+   vayudrit_read_graph and vayudrit_tidy the line. */
 #define VAYUDRIT_NUMBER(r) ((r) % 256)
 #define VAYUDRIT_ENTRY(r) ((r) / 256)
 #define VAYUDRIT_LINE(r) ((r) / 256)
@@ -175,6 +179,19 @@ uint64_t vayudrit_unbalanced(uint64_t n, int64_t number, uint64_t *point, size_t
  */
 uint64_t vayudrit_read_graph(const uint8_t *text, size_t text_bytes, uint64_t *words, size_t words_count,
                              uint64_t *told, size_t told_words);
+
+/*
+ * The text of a DIMACS graph file, read as vayudrit_read_graph reads it, written back tidied: "p edge V E", where E is the
+ * number of different edges, then each edge once, "e A B" with A < B, ordered by A and then by B; no comments, each line
+ * ended by a line feed. It is written to the first bytes of out, and the rest of out stays. told has 4 words: the bytes
+ * written; the comment lines, the repeated edges (e lines whose edge an earlier line has, either way round) and the
+ * e lines with the larger vertex first that the text had. A line may count as both of the last two. Reading what was
+ * written gives the same vertices and the same set of edges; tidying it again gives the same bytes and counts 0, 0, 0.
+ * Refusals, asked in this order: 15; 2 (told_words is not 4); then those of the lines and of the text's end, as
+ * vayudrit_read_graph has them; last 18, with line 0. With VAYUDRIT_MAX_TIDY_BYTES lent there is no 18.
+ */
+uint64_t vayudrit_tidy(const uint8_t *text, size_t text_bytes, uint8_t *out, size_t out_bytes, uint64_t *told,
+                       size_t told_words);
 
 #ifdef __cplusplus
 }

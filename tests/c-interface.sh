@@ -30,6 +30,12 @@ for program in graph graph++; do
     "$out/$program" <examples/sites.col | diff - examples/graph.out
 done
 
+gcc -std=c99 $warn examples/tidy.c "$lib" -o "$out/tidy"
+g++ -x c++ -std=c++11 $warn examples/tidy.c -x none "$lib" -o "$out/tidy++"
+for program in tidy tidy++; do
+    "$out/$program" <examples/sites.col | diff - examples/tidy.out
+done
+
 gcc -std=c99 $warn tests/interface.c "$lib" -o "$out/interface"
 gcc -std=c99 -g -fsanitize=address,undefined -Iinclude tests/interface.c "$lib" -o "$out/interface-checked"
 gcc -std=c99 -static $warn tests/interface.c "$lib" -o "$out/interface-static"
@@ -42,4 +48,9 @@ gcc -std=c99 -O2 -Wall -Wextra -Werror tests/reference/graph_texts.c tests/refer
 gcc -std=c99 -g -fsanitize=address,undefined -fno-sanitize-recover=all -Wall -Wextra -Werror -Iinclude tests/reference/graph_compare.c tests/reference/reference.c "$lib" -o "$out/graph_compare"
 "$out/graph_texts" "${SEED:-1}" 1200 "$out/texts"
 "$out/graph_compare" "$out"/texts/*
+# The same texts and those of larger graphs tidied, against the second program.
+mkdir "$out/larger"
+"$out/graph_texts" "${SEED:-1}" 900 "$out/larger" 20
+gcc -std=c99 -g -fsanitize=address,undefined -fno-sanitize-recover=all -Wall -Wextra -Werror -Iinclude tests/reference/tidy_compare.c tests/reference/tidy.c tests/reference/reference.c "$lib" -o "$out/tidy_compare"
+"$out/tidy_compare" "$out"/texts/* "$out"/larger/*
 echo "the C interface: all as expected"

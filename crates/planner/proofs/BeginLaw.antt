@@ -34,9 +34,9 @@ use Rattle.search.proofs.TrailLaw.{end-is}
 use Rattle.opening.proofs.VerdictLaw.{verdict-done}
 use Rattle.demand.proofs.DemandLaw.{cost-all}
 use Rattle.planner.specs.declared.Session.{Session}
-use Rattle.texts.specs.Text.{refusalLine}
+use Rattle.texts.specs.Text.{refusalLine, lineIf}
 use Rattle.listing.specs.Listing.{layoutLines, headLine, totalsLine}
-use Rattle.planner.specs.Output.{layoutsIn, writtenFor, outputOf, toldFor, toldOf, ownTable, leftFrom, leftIf, leftOf, toldWhen, Begun}
+use Rattle.planner.specs.Output.{layoutsIn, writtenFor, outputOf, toldFor, toldOf, ownTable, leftFrom, leftOf, toldWhen, Begun}
 use Rattle.planner.specs.Parts.{Refuses, Startable, Started}
 use Rattle.planner.proofs.GraphLaw.{zeros-layouts}
 use Rattle.planner.proofs.NextLaw.{append-none}
@@ -89,7 +89,7 @@ begun-refused input table b f number line r e q h =
     record {
       output = ap writtenFor (refused-is (outcomeOf input 462) f line (sym e)) ∙ ap (λ (x : ℕ). refusalLine x line) (sym q) ∙ sym (h .bytes)
           ∙ sym (append-none (take (r .used) b))
-          ∙ ap (λ (x : Bool). take (r .used) b ++ leftIf x (leftFrom (r .n) (trailBehind (ownTable (take (2 * countOf (r .n)) table) r)) (r .points))) (sym (h .over));
+          ∙ ap (λ (x : Bool). take (r .used) b ++ lineIf x (leftFrom (r .n) (trailBehind (ownTable (take (2 * countOf (r .n)) table) r)) (r .points))) (sym (h .over));
       told = ap toldFor (refused-is (outcomeOf input 462) f line (sym e)) ∙ ap (λ (x : ℕ). refusalLine x line) (sym q) ∙ sym (h .bytes)
           ∙ ap (λ (x : Bool). toldWhen x (take (r .used) b)) (sym (h .over));
       standing = λ o. absurd (true≢false (sym o ∙ h .over));
@@ -156,12 +156,12 @@ module _ (input : List ℕ) (n m : ℕ) (e : answer.Graph n m ≡ answerOf (outc
     where
       whole : (es : List Ends) → outcomeOf input 462 ≡ graph n es → length es ≡ m → take (2 * countOf n) ws ≡ wordsOf n m (systemOf es)
           → take (2 * countOf (r .n)) (t ++ rest) ≡ t
-          → writtenFor (outcomeOf input 462) ≡ take (r .used) b ++ leftIf (r .open) (leftFrom (r .n) (trailBehind (ownTable (take (2 * countOf (r .n)) (t ++ rest)) r)) (r .points))
+          → writtenFor (outcomeOf input 462) ≡ take (r .used) b ++ lineIf (r .open) (leftFrom (r .n) (trailBehind (ownTable (take (2 * countOf (r .n)) (t ++ rest)) r)) (r .points))
       whole es g k w a =
           ap writtenFor g
           ∙ ap₂ (λ (x y : List ℕ). x ++ y) (ap (headLine n) k ∙ sym (h .bytes))
           (sym (left-graph input n es g) ∙ sym (
-          ap (λ (x : Bool). leftIf x (leftFrom (r .n) (trailBehind (ownTable (take (2 * countOf (r .n)) (t ++ rest)) r)) (r .points))) (h .going)
+          ap (λ (x : Bool). lineIf x (leftFrom (r .n) (trailBehind (ownTable (take (2 * countOf (r .n)) (t ++ rest)) r)) (r .points))) (h .going)
           ∙ ap (λ (x : List ℕ). leftFrom (r .n) (trailBehind (ownTable x r)) (r .points)) (a ∙ h .differences ∙ ap (differencesOf n m) w)
           ∙ ap₂ (λ (x y : ℕ). leftFrom x (trailBehind (quadratic x y (differencesOf n m (wordsOf n m (systemOf es))))) (r .points)) (h .unknowns) (h .equations)
           ∙ ap (λ (x : ℕ). leftFrom n (trailBehind (quadratic n m (differencesOf n m (wordsOf n m (systemOf es))))) x) (h .first)

@@ -7,10 +7,11 @@ use native.Mathlib.Omega.{arith}
 use lib.ListN.{take}
 use Rattle.tables.specs.Monomials.{countOf}
 use Rattle.planner.specs.declared.Session.{Session}
-use Rattle.planner.specs.Output.{outputOf, ownTable, Standing, leftFrom, leftIf, leftOf, Begun, Went, Calls, none, more}
+use Rattle.planner.specs.Output.{outputOf, ownTable, Standing, leftFrom, leftOf, Begun, Went, Calls, none, more}
 use Rattle.search.specs.Search.{trailBehind}
 use Rattle.given.proofs.TableLaw.{within, power-small}
 use Rattle.planner.proofs.NextLaw.{append-none}
+use Rattle.texts.specs.Text.{lineIf}
 
 -- a session that stands has its unknowns within the limits
 pub unknowns : (t : List ℕ) (s : Session) → Standing t s → (1 ≤ s .n) × (s .n ≤ 20)
@@ -41,7 +42,7 @@ calls-most t s h = omega (arith, calls-few (s .open) (3 ^ s .n) (s .points), pow
 -- ---- what is written
 pub left-none : (t : List ℕ) (s : Session) → s .open ≡ false → leftOf t s ≡ []
 unfolding leftOf
-left-none t s e = ap (λ (x : Bool). leftIf x (leftFrom (s .n) (trailBehind (ownTable t s)) (s .points))) e
+left-none t s e = ap (λ (x : Bool). lineIf x (leftFrom (s .n) (trailBehind (ownTable t s)) (s .points))) e
 
 calls-left : (t : List ℕ) (s : Session) (l : List ℕ) (r : Session) → Calls t s l r → leftOf t s ≡ l ++ leftOf t r
 calls-left t s l r none = refl

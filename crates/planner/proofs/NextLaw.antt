@@ -33,8 +33,9 @@ use Rattle.search.proofs.VerdictLaw.{asked, verdict-opened}
 use Rattle.search.proofs.TrailLaw.{end-is, cost-le, place-opened}
 use Rattle.planner.specs.declared.Session.{Session}
 use Rattle.listing.specs.Listing.{layoutLine, layoutLines, totalsLine}
-use Rattle.planner.specs.Output.{ownTable, Standing, leftFrom, leftIf, leftOf, Went, Stepped}
+use Rattle.planner.specs.Output.{ownTable, Standing, leftFrom, leftOf, Went, Stepped}
 use Rattle.planner.specs.Parts.{isEnded, Tellable, Told}
+use Rattle.texts.specs.Text.{lineIf}
 
 -- ---- lines
 pub lines-append : (n : ℕ) (a b : List ℕ) → layoutLines n (a ++ b) ≡ layoutLines n a ++ layoutLines n b
@@ -200,12 +201,12 @@ module _ (t : List ℕ) (s : Session) (st : Standing t s) (b : ℕ) (l : List �
             found = rw (h .unknowns, h .equations, points-are) (h .found ∙ found-next);
           }
 
-      left-next : (x : Bool) → r .open ≡ x → leftOf t r ≡ leftIf x (leftFrom (s .n) T (p + k))
+      left-next : (x : Bool) → r .open ≡ x → leftOf t r ≡ lineIf x (leftFrom (s .n) T (p + k))
       unfolding leftOf
       left-next x e =
-          ap (λ (y : Bool). leftIf y (leftFrom (r .n) (trailBehind (ownTable t r)) (r .points))) e
-          ∙ ap₂ (λ (n m : ℕ). leftIf x (leftFrom n (trailBehind (quadratic n m t)) (r .points))) (h .unknowns) (h .equations)
-          ∙ ap (λ (q : ℕ). leftIf x (leftFrom (s .n) T q)) points-are
+          ap (λ (y : Bool). lineIf y (leftFrom (r .n) (trailBehind (ownTable t r)) (r .points))) e
+          ∙ ap₂ (λ (n m : ℕ). lineIf x (leftFrom n (trailBehind (quadratic n m t)) (r .points))) (h .unknowns) (h .equations)
+          ∙ ap (λ (q : ℕ). lineIf x (leftFrom (s .n) T q)) points-are
 
       lines : List ℕ
       lines = layoutLines (s .n) (zerosIn T p k)
@@ -215,7 +216,7 @@ module _ (t : List ℕ) (s : Session) (st : Standing t s) (b : ℕ) (l : List �
       split true e =
           let j : p + k ≡ T .end = i .ended .0 (ended-true (w .stop) e) in
           left-split (s .n) T p k stays ∙ ap (λ (y : List ℕ). lines ++ y) (left-end (s .n) T (p + k) j ∙ last)
-          ∙ sym (h .bytes ∙ ap₂ (λ (a : List ℕ) (x : Bool). layoutLines (s .n) a ++ leftIf x (totalsLine (r .points) (r .additions) (r .found))) (i .listed) e)
+          ∙ sym (h .bytes ∙ ap₂ (λ (a : List ℕ) (x : Bool). layoutLines (s .n) a ++ lineIf x (totalsLine (r .points) (r .additions) (r .found))) (i .listed) e)
           ∙ sym (append-none (take (r .used) text))
           ∙ ap (λ (y : List ℕ). take (r .used) text ++ y) (sym (left-next false (h .going ∙ ap not e)))
         where
@@ -226,7 +227,7 @@ module _ (t : List ℕ) (s : Session) (st : Standing t s) (b : ℕ) (l : List �
       split false e =
           left-split (s .n) T p k stays
           ∙ ap (λ (y : List ℕ). y ++ leftFrom (s .n) T (p + k))
-          (sym (h .bytes ∙ ap₂ (λ (a : List ℕ) (x : Bool). layoutLines (s .n) a ++ leftIf x (totalsLine (r .points) (r .additions) (r .found))) (i .listed) e ∙ append-none lines))
+          (sym (h .bytes ∙ ap₂ (λ (a : List ℕ) (x : Bool). layoutLines (s .n) a ++ lineIf x (totalsLine (r .points) (r .additions) (r .found))) (i .listed) e ∙ append-none lines))
           ∙ ap (λ (y : List ℕ). take (r .used) text ++ y) (sym (left-next true (h .going ∙ ap not e)))
 
       further : r .open ≡ true → s .points < r .points
@@ -242,7 +243,7 @@ module _ (t : List ℕ) (s : Session) (st : Standing t s) (b : ℕ) (l : List �
       unfolding leftOf
       went e =
           record {
-            output = ap (λ (x : Bool). leftIf x (leftFrom (s .n) T p)) e ∙ split (isEnded (w .stop)) refl;
+            output = ap (λ (x : Bool). lineIf x (leftFrom (s .n) T p)) e ∙ split (isEnded (w .stop)) refl;
             standing = standing;
             unknowns = h .unknowns;
             equations = h .equations;

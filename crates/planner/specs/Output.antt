@@ -15,7 +15,7 @@ use Rattle.given.specs.Given.{Given, quadratic, Checked}
 use Rattle.search.specs.Search.{trailBehind}
 use Rattle.opening.specs.Opened.{openedAt}
 use Rattle.planner.specs.declared.Session.{Session}
-use Rattle.texts.specs.Text.{refusalLine}
+use Rattle.texts.specs.Text.{refusalLine, lineIf, endedLine}
 use Rattle.listing.specs.Listing.{layoutLines, headLine, totalsLine}
 
 -- ---- for planners
@@ -38,10 +38,6 @@ writtenFor (refused r k) = refusalLine (numberOf r) k
 
 unfoldable pub outputOf : List ℕ → List ℕ
 outputOf text = writtenFor (outcomeOf text wordsLeast)
-
--- "ended"
-abbrev pub endedLine : List ℕ
-endedLine = 101 ∷ 110 ∷ 100 ∷ 101 ∷ 100 ∷ 10 ∷ []
 
 -- what is told beside the output once all of it was written: that the search ended, or the refusal
 abbrev pub toldFor : Outcome → List ℕ
@@ -70,12 +66,8 @@ leftFrom n T p =
     layoutLines n (zerosIn T p (T .end - p)) ++ totalsLine (T .end) (costIn T 0 (T .end)) (length (zerosIn T 0 (T .end)))
 
 -- what is left to write: nothing once the session is over
-abbrev pub leftIf : Bool → List ℕ → List ℕ
-leftIf true l = l
-leftIf false l = []
-
 unfoldable pub leftOf : List ℕ → Session → List ℕ
-leftOf t s = leftIf (s .open) (leftFrom (s .n) (trailBehind (ownTable t s)) (s .points))
+leftOf t s = lineIf (s .open) (leftFrom (s .n) (trailBehind (ownTable t s)) (s .points))
 
 -- what is told of a walk that goes on is that it ended; otherwise it is what was written
 abbrev pub toldWhen : Bool → List ℕ → List ℕ

@@ -9,12 +9,14 @@ use lib.ListN.{length, take, length-append}
 use lib.Seq.{length-take-le}
 use borrow.Author.Tests.{eq-eqb, ne-eqb}
 use Rattle.planner.specs.declared.Session.{Session}
-use Rattle.planner.specs.Output.{outputOf, endedLine, toldOf, leftIf, leftOf, Standing, toldWhen, Begun, Went}
-use Rattle.texts.specs.Text.{Put}
+use Rattle.planner.specs.Output.{outputOf, toldOf, leftOf, Standing, toldWhen, Begun, Went}
+use Rattle.texts.specs.Text.{Put, lineIf, endedLine}
 use Rattle.tables.specs.Monomials.{countOf}
 use Rattle.sending.specs.declared.Driven.{Driven}
-use Rattle.sending.specs.declared.Ending.{Ending}
-use Rattle.sending.specs.Ending.{Ends, Drives, toldIf, Concludes, Walks}
+use Rattle.endings.specs.declared.Ending.{Ending}
+use Rattle.endings.specs.Endings.{Concludes}
+use Rattle.endings.proofs.EndLaw.{not-told, line-told}
+use Rattle.sending.specs.Ending.{Ends, Drives, Walks}
 use Rattle.planner.proofs.DriveLaw.{callsLeft, calls-most, falls, left-none}
 
 -- of the walk that began at g, with `first` bytes taken before it, `sent` bytes are taken at s; a call sends at most 65,536
@@ -55,47 +57,18 @@ all-taken t g first s sent h o =
     sym (eq-eqb sent (first + length (leftOf t g)) (omega (arith, h .bytes)))
 
 -- ---- what is told
-and-false : (x : Bool) → x && false ≡ false
-and-false true = refl
-and-false false = refl
-
-fits-if : (x : Bool) (k n : ℕ) → k ≤ n → toldIf x k ≤ n
-fits-if true k n h = h
-fits-if false k n h = omega arith
-
-told-if : (x : Bool) (k : ℕ) (b l : List ℕ) → take k b ≡ l → take (toldIf x k) b ≡ leftIf x l
-told-if true k b l h = h
-told-if false k b l h = refl
-
-pub concludes : (k bytes told : ℕ) (x : Bool) → told ≡ toldIf x k → Concludes k bytes (record { told = told; sent = bytes; closed = x })
-concludes k bytes told x e = record { told = e; sent = refl }
-
 -- nothing, where the output was not closed
 pub none-walked : (t : List ℕ) (s : Session) (first : ℕ) (b : List ℕ) (sent : ℕ) → Walks t s first b (record { told = 0; sent = sent; closed = false })
-none-walked t s first b sent =
-    record { fits = omega arith; told = ap (λ (x : Bool). leftIf x endedLine) (sym (and-false (eqb sent (first + length (leftOf t s))))) }
+none-walked t s first b sent = not-told (first + length (leftOf t s)) sent endedLine b
 
 pub none-told : (input b : List ℕ) (sent : ℕ) → Ends input b (record { told = 0; sent = sent; closed = false })
-none-told input b sent =
-    record { fits = omega arith; told = ap (λ (x : Bool). leftIf x (toldOf input)) (sym (and-false (eqb sent (length (outputOf input))))) }
+none-told input b sent = not-told (length (outputOf input)) sent (toldOf input) b
 
 -- the line, once all was taken
-line-told : (k all sent : ℕ) (b l : List ℕ) (r : Ending) → Concludes k sent r → take k b ≡ l → eqb sent all ≡ true
-    → take (r .told) b ≡ leftIf (eqb (r .sent) all && r .closed) l
-line-told k all sent b l r h e f =
-    ap (λ (j : ℕ). take j b) (h .told) ∙ told-if (r .closed) k b l e
-    ∙ ap (λ (x : Bool). leftIf (x && r .closed) l) (sym (ap (λ (j : ℕ). eqb j all) (h .sent) ∙ f))
-
-line-fits : (k sent n : ℕ) (r : Ending) → Concludes k sent r → k ≤ n → r .told ≤ n
-line-fits k sent n r h l = rw (h .told) (fits-if (r .closed) k n l)
-
 pub walked : (t : List ℕ) (s : Session) (first : ℕ) (d : Driven) (old b : List ℕ) (k : ℕ) (r : Ending) → Drives t s first d → d .all ≡ true
     → Put old 0 endedLine b k → 6 ≤ length old → Concludes k (d .sent) r → Walks t s first b r
 walked t s first d old b k r h a p l g =
-    record {
-      fits = line-fits k (d .sent) (length b) r g (omega (arith, p .next, p .size));
-      told = line-told k (first + length (leftOf t s)) (d .sent) b endedLine r g (p .front) (sym (h .all) ∙ a);
-    }
+    line-told k (first + length (leftOf t s)) (d .sent) endedLine b r (sym (h .all) ∙ a) g (omega (arith, p .next, p .size)) (p .front)
 
 -- the first text and what is left after it are as long as the output
 begun-length : (input table b : List ℕ) (s : Session) → Begun input table b s
@@ -111,10 +84,8 @@ ends-refused input table b s first r g o e h =
     let t = take (2 * countOf (s .n)) table in
     let z : length (leftOf t s) ≡ 0 = ap length (left-none t s o) in
     let all : first ≡ length (outputOf input) = omega (arith, begun-length input table b s g) in
-    record {
-      fits = line-fits (s .used) first (length b) r h (g .used);
-      told = line-told (s .used) (length (outputOf input)) first b (toldOf input) r h (sym (g .told ∙ ap (λ (x : Bool). toldWhen x (take (s .used) b)) o)) (eq-eqb first (length (outputOf input)) all);
-    }
+    line-told (s .used) (length (outputOf input)) first (toldOf input) b r (eq-eqb first (length (outputOf input)) all) h (g .used)
+    (sym (g .told ∙ ap (λ (x : Bool). toldWhen x (take (s .used) b)) o))
 
 pub ends-graph : (input table b : List ℕ) (s : Session) (first : ℕ) (c : List ℕ) (r : Ending) → Begun input table b s → s .open ≡ true → first ≡ s .used
     → Walks (take (2 * countOf (s .n)) table) s first c r → Ends input c r
@@ -124,5 +95,5 @@ ends-graph input table b s first c r g o e h =
     record {
       fits = h .fits;
       told = h .told
-          ∙ ap₂ (λ (k : ℕ) (l : List ℕ). leftIf (eqb (r .sent) k && r .closed) l) all (sym (g .told ∙ ap (λ (x : Bool). toldWhen x (take (s .used) b)) o));
+          ∙ ap₂ (λ (k : ℕ) (l : List ℕ). lineIf (eqb (r .sent) k && r .closed) l) all (sym (g .told ∙ ap (λ (x : Bool). toldWhen x (take (s .used) b)) o));
     }

@@ -2,6 +2,7 @@
 // taken are counted; specs/Ending says when something is to be told at the end, and what. That `send` is called for each text, and
 // with which descriptor, is read and tested, and that the bytes arrive is the system's part.
 use crate::progress::Screen;
+use endings::Ending;
 use libc::STDOUT_FILENO;
 use planner::Session;
 ghost use mathlib.Core.Path.{_≡_};
@@ -10,7 +11,7 @@ ghost use lib.ListN.{length};
 ghost use Rattle.refusals.specs.Limits.{mostWords, pieceEntries};
 ghost use Rattle.listing.specs.Listing.{longestLayout, longestTotals};
 ghost use Rattle.planner.specs.Output.{Standing};
-ghost use Rattle.sending.specs.Ending.{textBytes, Drives, Concludes, Walks, Ends};
+ghost use Rattle.sending.specs.Ending.{textBytes, Drives, Walks, Ends};
 
 mod progress;
 
@@ -24,13 +25,6 @@ pub const TEXT_BYTES: usize = 65536;
 struct Driven {
     sent: u64,
     all: bool,
-}
-
-// How many bytes of the text are to be told, how many bytes of the output were taken, and whether closing it went well.
-pub struct Ending {
-    pub told: usize,
-    pub sent: u64,
-    pub closed: bool,
 }
 
 // The calls after the first text, each written before the next; so many bytes were taken before them.
@@ -63,21 +57,6 @@ fn drive(
     Driven { sent, all: true }
 }
 
-// The end of a run that wrote everything: the output is closed, and told is what stands in the text, if that went well.
-fn concluded(told: usize, sent: u64) -> Ending
-    ensures { λ r. ⌜ Concludes told sent r ⌝ }
-{
-    let closed = streams::finish(STDOUT_FILENO);
-    if !closed {
-        return Ending {
-            told: 0,
-            sent,
-            closed,
-        };
-    }
-    Ending { told, sent, closed }
-}
-
 // The walk of a graph that was read, and its end; so many bytes were taken before it.
 fn walk_graph(s: Session, table: &[u64], list: &mut [u64], text: &mut [u8], first: u64) -> Ending
     requires { ⌜ Standing (now table) s × (1 ≤ length (now list)) × (longestLayout * length (now list) + longestTotals ≤ length (now text)) × (length (now text) ≤ textBytes) × (first ≤ textBytes) ⌝ }
@@ -94,7 +73,7 @@ fn walk_graph(s: Session, table: &[u64], list: &mut [u64], text: &mut [u8], firs
         };
     }
     let told = texts::put(text, 0, b"ended\n");
-    concluded(told, d.sent)
+    endings::concluded(told, d.sent)
 }
 
 // The whole output for an input, and its end.
@@ -120,7 +99,7 @@ pub fn run(
         };
     }
     if !s.open {
-        return concluded(used, first);
+        return endings::concluded(used, first);
     }
     let size = tables::words(s.n);
     walk_graph(s, &table[..size], list, text, first)

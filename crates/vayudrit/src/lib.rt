@@ -6,6 +6,7 @@ ghost use lib.ListN.{length};
 ghost use Rattle.refusals.specs.Refusal.{codeOf};
 ghost use Rattle.tables.specs.Answers.{checkedOf, packVerdict, packAfter, copyVerdict, differencesAfter, coefficientsAfter};
 ghost use Rattle.reader.specs.Answers.{wordsAfter, callOf, callCode, toldAfter};
+ghost use Rattle.exchange.specs.Answers as tidied;
 ghost use Rattle.given.specs.Given.{quadratic};
 ghost use Rattle.number_calls.specs.Call.{convertCall, pointAfter, placeAfter, balancedAfter, unbalancedCall, unbalancedAfter};
 ghost use Rattle.table_calls.specs.Call.{evaluateCall, evaluateAfter};
@@ -151,4 +152,15 @@ pub extern "C" fn vayudrit_read_graph(text: &[u8], words: &mut [u64], told: &mut
         × (now (told .exit) ≡ toldAfter (callOf (now (text .entry)) (length (now (words .entry))) (length (now (told .entry)))) (now (told .entry))) ⌝ }
 {
     reader::read_told(text, words, told)
+}
+
+// The text of a graph file tidied, to the front of the output: 0, and in the four words told the bytes written, the comment lines, the
+// repeated edges and the lines with the larger vertex first; or the refusal's number plus 256 times its line.
+#[no_mangle]
+pub extern "C" fn vayudrit_tidy(text: &[u8], out: &mut [u8], told: &mut [u64]) -> u64
+    ensures { λ c. ⌜ (c ≡ tidied.codeOf (tidied.answerOf (now (text .entry)) (tidied.callOf (now (text .entry)) (length (now (out .entry))) (length (now (told .entry))))))
+        × (now (out .exit) ≡ tidied.outAfter (tidied.callOf (now (text .entry)) (length (now (out .entry))) (length (now (told .entry)))) (now (out .entry)))
+        × (now (told .exit) ≡ tidied.toldAfter (tidied.answerOf (now (text .entry)) (tidied.callOf (now (text .entry)) (length (now (out .entry))) (length (now (told .entry))))) (now (told .entry))) ⌝ }
+{
+    exchange::tidy_told(text, out, told)
 }

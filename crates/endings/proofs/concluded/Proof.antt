@@ -1,12 +1,12 @@
--- `sending::concluded` keeps its contract.
+-- `endings::concluded` meets its contract.
 use mathlib.Core.Path.{sym, ap}
 use mathlib.Core.Bool.{Bool}
 use borrow.Author.Tests.{not-true, not-false}
-use Rattle.sending.specs.Ending.{toldIf}
-use Rattle.sending.proofs.EndLaw.{concludes}
+use Rattle.endings.specs.Endings.{toldIf}
+use Rattle.endings.proofs.EndLaw.{concludes}
 use borrow.Author.Needs.{needs}
-use Rattle.sending.proofs.concluded.Statement.{statement}
-use Rattle.sending.proofs.concluded.Tie as tie
+use Rattle.endings.proofs.concluded.Statement.{statement}
+use Rattle.endings.proofs.concluded.Tie as tie
 
 finish-requires : tie.Need-finish-requires
 finish-requires c κs = search needs

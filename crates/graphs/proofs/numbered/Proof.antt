@@ -1,8 +1,8 @@
--- `reader::numbered` meets its contract: above every number there is room for a line.
+-- `graphs::numbered` meets its contract: above every number there is room for a line.
 use native.Mathlib.Omega.{arith}
 use borrow.Author.Needs.{needs}
-use Rattle.reader.proofs.numbered.Statement.{statement}
-use Rattle.reader.proofs.numbered.Tie as tie
+use Rattle.graphs.proofs.numbered.Statement.{statement}
+use Rattle.graphs.proofs.numbered.Tie as tie
 
 number-requires : tie.Need-number-requires
 number-requires c κs = search needs
