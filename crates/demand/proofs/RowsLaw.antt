@@ -24,7 +24,7 @@ use Rattle.polynomials.specs.Poly.{Poly, valueOf, tableOf}
 use Rattle.polynomials.proofs.FormLaw.{half-three}
 use Rattle.tables.specs.Monomials.{countOf, indexOf}
 use Rattle.tables.specs.Words.{entry, legalFront, Table, polyAt, packed, differencesOf}
-use Rattle.tables.specs.Answers.{long, paired, checkedOf, packVerdict, packAfter, copyVerdict}
+use Rattle.tables.specs.Answers.{long, paired, packVerdict, packAfter, copyVerdict}
 use Rattle.tables.proofs.IndexLaw.{index-lt}
 use Rattle.tables.proofs.WordLaw.{nth-poly, front-whole}
 use Rattle.tables.proofs.AgreeLaw.{Agree, agree-trans, back-agree, back-of-table}
@@ -32,16 +32,17 @@ use Rattle.tables.proofs.RoundLaw.{differences-table, differences-hold, packed-
 use Rattle.walks.specs.Runs.{Request, SaysEnded}
 use Rattle.walks.specs.Zeros.{Rising, placesIn}
 use Rattle.walks.proofs.ZeroLaw.{places-in, places-rise}
+use Rattle.given.specs.Given.{Given, quadratic, behind, valuesOf, Checked}
+use Rattle.given.proofs.TableLaw.{checked-of}
+use Rattle.given.proofs.ValuesLaw.{value-agree}
 use Rattle.opening.specs.declared.Record.{Record}
-use Rattle.opening.specs.Opened.{systemOf, openedAt, noRecord, openVerdict, openOf}
-use Rattle.search.specs.Search.{trailOf}
+use Rattle.opening.specs.Opened.{openedAt, noRecord, openVerdict, openOf}
+use Rattle.search.specs.Search.{trailBehind}
 use Rattle.demand.specs.Session.{sessionOf}
 use Rattle.demand.specs.Demand.{CommonZero, fromStart}
 use Rattle.demand.specs.Rows.{total, coefficient, rowAt, RowsZero, ListsZeros, tableFrom, runFrom, FromRows}
 use Rattle.opening.proofs.PlaceLaw.{two}
-use Rattle.opening.proofs.SystemLaw.{value-agree}
-use Rattle.opening.proofs.OpenLaw.{copy-done}
-use Rattle.opening.proofs.VerdictLaw.{checked-next}
+use Rattle.opening.proofs.VerdictLaw.{verdict-done}
 use Rattle.demand.proofs.SignedLaw.{Like, like-add, like-mul, like-sum, like-floor, floor-is}
 use Rattle.demand.proofs.DemandLaw.{whole-walk, trans-iff}
 
@@ -85,20 +86,20 @@ module _ (n m : ℕ) (rows : List ℤ) where
   abbrev t : List ℕ
   t = differencesOf n m (packed n m rows)
 
-  system-agrees : (e : ℕ) → e < m → Agree 3 n (systemOf n t e) (P e)
-  unfolding systemOf
+  system-agrees : (e : ℕ) → e < m → Agree 3 n (behind n t e) (P e)
   system-agrees e l =
       agree-trans
       (back-agree 3 two n (polyAt n t e) (tableOf 3 (P e)) (differences-hold n m (packed n m rows) e l) 2 half-three)
       (back-of-table 3 two 2 half-three n (P e))
 
-  value-rows : (e : ℕ) → e < m → (x : ℕ → ℕ) → valueOf (systemOf n t e) n x % 3 ≡ floorMod 3 (rowAt n rows e x)
+  value-rows : (e : ℕ) → e < m → (x : ℕ → ℕ) → valuesOf (quadratic n m t) e x % 3 ≡ floorMod 3 (rowAt n rows e x)
+  unfolding valuesOf
   value-rows e l x =
-      value-agree 3 n (systemOf n t e) (P e) (system-agrees e l) x .same
+      value-agree 3 n (behind n t e) (P e) (system-agrees e l) x .same
       ∙ sym (floor-is 3 some (rowAt n rows e x) (valueOf (P e) n x) (like-value e l x))
 
   -- its common zeros are the zeros of the rows
-  pub zero-rows : (x : ℕ) → CommonZero n m t x ↔ RowsZero n m rows x
+  pub zero-rows : (x : ℕ) → CommonZero (quadratic n m t) x ↔ RowsZero n m rows x
   zero-rows x = (
     λ z. record { point = z .point; zero = λ e l. sym (value-rows e l (digit 3 x)) ∙ z .zero e l },
     λ z. record { point = z .point; zero = λ e l. value-rows e l (digit 3 x) ∙ z .zero e l },
@@ -111,16 +112,17 @@ places-back n (x ∷ l) h =
     ap₂ (λ (y : ℕ) (k : List ℕ). y ∷ k) (place-of-point 3 two n x (h 0 (omega arith))) (places-back n l (λ i k. h (suc i) (omega arith)))
 
 -- ---- what is not refused
-checked : (n m : ℕ) (t : List ℕ) → Within n m → Table n m t → checkedOf n m t ≡ verdict.Done
-checked n m t w h =
-    let f : legalFront m t ≡ countOf n = front-whole m (countOf n) t (h .size) .1 (h .legal) in
-    sized-next n m (long n t (paired n m t verdict.Done)) w
-    ∙ refuse-none (not (eqb (length t) (2 * countOf n))) refusal.Length (paired n m t verdict.Done) (ap not (eq-eqb _ _ (h .size)))
-    ∙ refuse-none (ltb (legalFront m t) (countOf n)) (refusal.Pair (legalFront m t)) verdict.Done (le-ltb (legalFront m t) (countOf n) (omega (arith, f)))
+copy-into : (n m : ℕ) (from to : List ℕ) → Within n m → Table n m from → length to ≡ 2 * countOf n → copyVerdict n m from to ≡ verdict.Done
+copy-into n m from to w h room =
+    let f : legalFront m from ≡ countOf n = front-whole m (countOf n) from (h .size) .1 (h .legal) in
+    sized-next n m (long n from (long n to (paired n m from verdict.Done))) w
+    ∙ refuse-none (not (eqb (length from) (2 * countOf n))) refusal.Length (long n to (paired n m from verdict.Done)) (ap not (eq-eqb _ _ (h .size)))
+    ∙ refuse-none (not (eqb (length to) (2 * countOf n))) refusal.Length (paired n m from verdict.Done) (ap not (eq-eqb _ _ room))
+    ∙ refuse-none (ltb (legalFront m from) (countOf n)) (refusal.Pair (legalFront m from)) verdict.Done (le-ltb (legalFront m from) (countOf n) (omega (arith, f)))
 
 module _ (n m : ℕ) (rows : List ℤ) (c d : List ℕ) (ok : packVerdict n m rows c ≡ verdict.Done) (room : length d ≡ 2 * countOf n) where
-  abbrev made : List ℕ
-  made = differencesOf n m (packed n m rows)
+  abbrev made : Given
+  made = quadratic n m (differencesOf n m (packed n m rows))
 
   inside : Within n m
   inside = sized-within n m (refuse (not (eqb (length rows) (m * countOf n))) refusal.Length (long n c verdict.Done)) ok
@@ -129,27 +131,26 @@ module _ (n m : ℕ) (rows : List ℤ) (c d : List ℕ) (ok : packVerdict n m ro
   words = ap (λ (v : Verdict). after v c (packed n m rows)) ok
 
   copies : copyVerdict n m (packAfter n m rows c) d ≡ verdict.Done
-  copies = ap (λ (w : List ℕ). copyVerdict n m w d) words ∙ copy-done n m (packed n m rows) (checked n m (packed n m rows) inside (packed-table n m rows)) d room
+  copies = ap (λ (w : List ℕ). copyVerdict n m w d) words ∙ copy-into n m (packed n m rows) d inside (packed-table n m rows) room
 
   table-is : tableFrom n m rows c d ≡ made
-  table-is = ap (λ (v : Verdict). after v d (differencesOf n m (packAfter n m rows c))) copies ∙ ap (differencesOf n m) words
+  table-is =
+      ap (quadratic n m) (ap (λ (v : Verdict). after v d (differencesOf n m (packAfter n m rows c))) copies ∙ ap (differencesOf n m) words)
 
-  made-checked : checkedOf n m made ≡ verdict.Done
-  made-checked = checked n m made inside (differences-table n m (packed n m rows))
+  made-checked : Checked made
+  made-checked = checked-of n m (differencesOf n m (packed n m rows)) inside (differences-table n m (packed n m rows))
 
-  opens : openVerdict n m made 0 ≡ verdict.Done
-  opens =
-      checked-next n m made (refuse (ltb (3 ^ n) 0) refusal.Range verdict.Done) made-checked
-      ∙ refuse-none (ltb (3 ^ n) 0) refusal.Range verdict.Done (le-ltb (3 ^ n) 0 (omega arith))
+  opens : openVerdict made 0 ≡ verdict.Done
+  opens = verdict-done made 0 made-checked (omega arith)
 
-  opened-is : openOf n m made 0 .«record» ≡ openedAt n m made 0
-  opened-is = ap (λ (v : Verdict). after v noRecord (openedAt n m made 0)) opens
+  opened-is : openOf made 0 .«record» ≡ openedAt made 0
+  opened-is = ap (λ (v : Verdict). after v noRecord (openedAt made 0)) opens
 
-  whole : (qs : List Request) → SaysEnded (fromStart n m made qs .told) → ListsZeros n m rows (fromStart n m made qs .listed)
+  whole : (qs : List Request) → SaysEnded (fromStart made qs .told) → ListsZeros n m rows (fromStart made qs .listed)
   whole qs e =
-      let w = whole-walk n m made made-checked qs e in
-      let T = trailOf n m made in
-      let b : map (placeOf 3 n) (fromStart n m made qs .listed) ≡ placesIn T 0 (3 ^ n)
+      let w = whole-walk made made-checked qs refl e in
+      let T = trailBehind made in
+      let b : map (placeOf 3 n) (fromStart made qs .listed) ≡ placesIn T 0 (3 ^ n)
       = ap (map (placeOf 3 n)) (w .order) ∙ places-back n (placesIn T 0 (3 ^ n)) (λ i l. omega (arith, places-in T 0 (3 ^ n) i l .below)) in
       record {
         all = λ x. trans-iff (w .all x) (zero-rows n m rows x);
@@ -163,7 +164,7 @@ module _ (n m : ℕ) (rows : List ℤ) (c d : List ℕ) (ok : packVerdict n m ro
   from-rows =
       record {
         differences = copies;
-        opened = ap (λ (w : List ℕ). openVerdict n m w 0) table-is ∙ opens;
-        lists = λ qs. subst (λ (w : List ℕ). SaysEnded (runFrom n m w qs .told) → ListsZeros n m rows (runFrom n m w qs .listed)) (sym table-is)
-            (subst (λ (r : Record). SaysEnded (sessionOf n m made r qs .told) → ListsZeros n m rows (sessionOf n m made r qs .listed)) (sym opened-is) (whole qs));
+        opened = ap (λ (g : Given). openVerdict g 0) table-is ∙ opens;
+        lists = λ qs. subst (λ (g : Given). SaysEnded (runFrom g qs .told) → ListsZeros n m rows (runFrom g qs .listed)) (sym table-is)
+            (subst (λ (r : Record). SaysEnded (sessionOf made r qs .told) → ListsZeros n m rows (sessionOf made r qs .listed)) (sym opened-is) (whole qs));
       }

@@ -13,14 +13,14 @@ use Rattle.refusals.specs.declared.Refusal.the-variants as refusal
 use Rattle.refusals.specs.declared.Verdict.{Verdict}
 use Rattle.refusals.specs.declared.Verdict.the-variants as verdict
 use Rattle.refusals.specs.Refusal.{refuse, after}
-use Rattle.tables.specs.Answers.{checkedOf}
 use Rattle.walks.specs.Calls.{Trail, pointsIn, reportOf, listAfter}
 use Rattle.walks.specs.Runs.{Request, Reply, awayWith, ranBy, Asks, Serves, Willing}
 use Rattle.walks.specs.declared.Report.{Report}
+use Rattle.given.specs.Given.{Given, Checked}
 use Rattle.opening.specs.declared.Record.{Record}
 use Rattle.search.specs.declared.Answer.the-variants.{Ran}
 use Rattle.opening.specs.Opened.{openedAt}
-use Rattle.search.specs.Search.{trailOf, answerFrom}
+use Rattle.search.specs.Search.{trailBehind, answerFrom}
 use Rattle.demand.specs.Session.{toldOf, callOf}
 use Rattle.search.proofs.VerdictLaw.{asked, verdict-opened}
 
@@ -34,33 +34,33 @@ asked-by : (q : Request) (x y : Bool) → eqb (q .budget) 0 ≡ x → eqb (lengt
 asked-by q x y b c = ap (λ (z : Bool). refuse z refusal.Budget (refuse (eqb (length (q .list)) 0) refusal.List verdict.Done)) b
     ∙ ap (λ (z : Bool). refuse x refusal.Budget (refuse z refusal.List verdict.Done)) c
 
-module _ (n m : ℕ) (t : List ℕ) (ok : checkedOf n m t ≡ verdict.Done) where
+module _ (g : Given) (ok : Checked g) where
   abbrev T : Trail
-  T = trailOf n m t
+  T = trailBehind g
 
-  call-by : (p : ℕ) (q : Request) (v : Verdict) → p ≤ 3 ^ n → asked (q .budget) (q .list) ≡ v
-      → callOf n m t (openedAt n m t p) q
-      ≡ replyFrom v (openedAt n m t p) (reportOf T (q .budget) (length (q .list)) p) (openedAt n m t (p + pointsIn T (q .budget) (length (q .list)) p)) (q .list) (listAfter T (q .budget) p (q .list))
+  call-by : (p : ℕ) (q : Request) (v : Verdict) → p ≤ 3 ^ g .n → asked (q .budget) (q .list) ≡ v
+      → callOf g (openedAt g p) q
+      ≡ replyFrom v (openedAt g p) (reportOf T (q .budget) (length (q .list)) p) (openedAt g (p + pointsIn T (q .budget) (length (q .list)) p)) (q .list) (listAfter T (q .budget) p (q .list))
   unfolding callOf openedAt
   call-by p q v h e =
-      ap (λ (v : Verdict). replyFrom v (openedAt n m t p) (reportOf T (q .budget) (length (q .list)) p) (openedAt n m t (p + pointsIn T (q .budget) (length (q .list)) p)) (q .list) (listAfter T (q .budget) p (q .list)))
-      (verdict-opened n m t p (q .budget) (q .list) ok h ∙ e)
+      ap (λ (v : Verdict). replyFrom v (openedAt g p) (reportOf T (q .budget) (length (q .list)) p) (openedAt g (p + pointsIn T (q .budget) (length (q .list)) p)) (q .list) (listAfter T (q .budget) p (q .list)))
+      (verdict-opened g p (q .budget) (q .list) ok h ∙ e)
 
   -- a request that asks for something runs
-  pub willing : Willing T (openedAt n m t) (callOf n m t)
-  unfolding trailOf
+  pub willing : Willing T (openedAt g) (callOf g)
+  unfolding trailBehind
   willing p q h a =
       call-by p q verdict.Done h (asked-by q false false (ne-eqb (q .budget) 0 (λ z. omega (arith, a .budget))) (ne-eqb (length (q .list)) 0 (λ z. omega (arith, a .room))))
 
-  pub serves : Serves T (openedAt n m t) (callOf n m t)
-  unfolding trailOf
+  pub serves : Serves T (openedAt g) (callOf g)
+  unfolding trailBehind
   serves p q h = go (eqb (q .budget) 0) (eqb (length (q .list)) 0) refl refl
     where
       above : (x : ℕ) → (x ≡ 0 → ⊥) → 0 < x
       above x h = omega arith
 
       go : (x y : Bool) → eqb (q .budget) 0 ≡ x → eqb (length (q .list)) 0 ≡ y
-          → (callOf n m t (openedAt n m t p) q ≡ awayWith (openedAt n m t p) q) ⊎ (Asks q × (callOf n m t (openedAt n m t p) q ≡ ranBy T (openedAt n m t) p q))
+          → (callOf g (openedAt g p) q ≡ awayWith (openedAt g p) q) ⊎ (Asks q × (callOf g (openedAt g p) q ≡ ranBy T (openedAt g) p q))
       go true y b c = inl (call-by p q (verdict.Refused refusal.Budget) h (asked-by q true y b c))
       go false true b c = inl (call-by p q (verdict.Refused refusal.List) h (asked-by q false true b c))
       go false false b c =

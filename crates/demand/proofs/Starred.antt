@@ -11,15 +11,16 @@ use Rattle.trits.specs.Words.{productOf}
 use Rattle.positions.specs.Positions.{lowestIn, lowestOf, positionsIn, positions, latest}
 use Rattle.gray.specs.Numbers.{digit, number, pointDigit, pointOf}
 use Rattle.balanced.specs.Balanced.{signedDigit, balancedOf}
-use Rattle.polynomials.specs.Poly.{valueOf, bumped, changeOf, prev, tableOf, prevOf, backOf}
+use Rattle.polynomials.specs.Poly.{valueOf, bumped, changeBy, prev, tableOf, prevOf, backOf}
 use Rattle.tables.specs.Monomials.{countOf, rowStart, indexOf, productNth, nth}
 use Rattle.tables.specs.Words.{entry, tabled, legalFront, polyAt, wordsOf, packed, differencesOf}
 use Rattle.walks.specs.Calls.{zerosIn, costIn, pointsIn, reportOf, listAfter, stopNumber}
 use Rattle.held.specs.Stands.{zeros}
 use Rattle.search.specs.declared.Answer.{Answer}
 use Rattle.search.specs.declared.Answer.the-variants.{Ran, Refused}
-use Rattle.opening.specs.Opened.{systemOf, valueAt, slotAt, slotsAt, openedAt}
-use Rattle.search.specs.Search.{trailOf, sameVectors, sameRecord, outcomeOf, listOf}
+use Rattle.given.specs.Given.{quadratic, valuesOf}
+use Rattle.opening.specs.Opened.{valueAt, slotAt, slotsAt, openedAt}
+use Rattle.search.specs.Search.{trailBehind, sameVectors, sameRecord, outcomeOf, listLeft}
 
 -- a case: what the definitions give, and what document 01 says
 record Row : Type 0 where
@@ -46,9 +47,9 @@ told (Refused f) p l = []
 
 abbrev call : ℕ → List ℤ → ℕ → ℕ → List ℤ
 call n c b r =
-    let t = differencesOf n 1 (packed n 1 c) in
-    let o = outcomeOf n 1 t (openedAt n 1 t 0) b (replicate r 0) in
-    naturals (told (o .answer) (o .«record» .place .0) (listOf n 1 t (openedAt n 1 t 0) b (replicate r 0)))
+    let g = quadratic n 1 (differencesOf n 1 (packed n 1 c)) in
+    let o = outcomeOf g (openedAt g 0) b (replicate r 0) in
+    naturals (told (o .answer) (o .«record» .place .0) (listLeft g (openedAt g 0) b (replicate r 0)))
 
 abbrev rows : List Row
 rows =
@@ -78,5 +79,5 @@ rows =
     ∷ []
 
 pub starred : map (λ r. r .gives) rows ≡ map (λ r. r .says) rows
-unfolding sum same bit trit fromBits ofTrits productOf lowestIn lowestOf positionsIn positions latest digit number pointDigit pointOf signedDigit balancedOf valueOf bumped changeOf prev tableOf prevOf backOf countOf rowStart indexOf productNth nth entry tabled legalFront polyAt wordsOf packed differencesOf zerosIn costIn pointsIn reportOf listAfter systemOf valueAt slotAt slotsAt openedAt zeros trailOf sameVectors sameRecord
+unfolding sum same bit trit fromBits ofTrits productOf lowestIn lowestOf positionsIn positions latest digit number pointDigit pointOf signedDigit balancedOf valueOf bumped changeBy prev tableOf prevOf backOf countOf rowStart indexOf productNth nth entry tabled legalFront polyAt wordsOf packed differencesOf zerosIn costIn pointsIn reportOf listAfter valuesOf valueAt slotAt slotsAt openedAt zeros trailBehind sameVectors sameRecord
 starred = refl

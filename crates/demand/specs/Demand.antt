@@ -4,31 +4,35 @@ use mathlib.Core.Logic.{_↔_}
 use mathlib.Core.List.{List, map}
 use Prim.Native.Nat.{ℕ, _-_, _*_, _%_, _^_, _<_}
 use Rattle.gray.specs.Numbers.{digit, pointOf}
-use Rattle.polynomials.specs.Poly.{valueOf}
 use Rattle.walks.specs.Runs.{Request, Sums, EachReply}
 use Rattle.walks.specs.Zeros.{placesIn, Holds, Once}
+use Rattle.given.specs.Given.{Given, valuesOf}
 use Rattle.opening.specs.declared.Record.{Record}
-use Rattle.opening.specs.Opened.{systemOf, openedAt}
-use Rattle.search.specs.Search.{trailOf}
+use Rattle.opening.specs.Opened.{openedAt}
+use Rattle.search.specs.Search.{trailBehind}
 use Rattle.demand.specs.Session.{callOf, sessionOf}
 
 -- a common zero of the system that a table comes from: a point at which every equation is 0 modulo 3
-pub record CommonZero (n m : ℕ) (t : List ℕ) (x : ℕ) : Type 0 where
-  pub point : x < 3 ^ n
-  pub zero : (e : ℕ) → e < m → valueOf (systemOf n t e) n (digit 3 x) % 3 ≡ 0
+pub record CommonZero (g : Given) (x : ℕ) : Type 0 where
+  pub point : x < 3 ^ g .n
+  pub zero : (e : ℕ) → e < g .m → valuesOf g e (digit 3 x) % 3 ≡ 0
+
+-- the additions of a whole walk of degree 2: two at each place but the first, less one at each of the n places with one position
+abbrev pub allAdditions : Given → ℕ
+allAdditions g = 2 * (3 ^ g .n - 1) - g .n
 
 -- the session from the record opened at place 0
-abbrev pub fromStart : ℕ → ℕ → List ℕ → List Request → Sums Record
-fromStart n m t qs = sessionOf n m t (openedAt n m t 0) qs
+abbrev pub fromStart : Given → List Request → Sums Record
+fromStart g qs = sessionOf g (openedAt g 0) qs
 
 -- each call was refused and changed nothing, or its answer tells that it examined the next places, at most its budget, at least one
 -- before the end, its record is the one opened at the place it came to, and its list has the zeros among its own places in front;
 -- the joined lists are all common zeros, each once, in Gray order; points and additions sum to those of the whole walk
-pub record WholeWalk (n m : ℕ) (t : List ℕ) (qs : List Request) : Type 0 where
-  pub each : EachReply (trailOf n m t) (openedAt n m t) (callOf n m t) 0 (openedAt n m t 0) qs
-  pub last : fromStart n m t qs .last ≡ openedAt n m t (3 ^ n)
-  pub all : (x : ℕ) → Holds x (fromStart n m t qs .listed) ↔ CommonZero n m t x
-  pub once : Once (fromStart n m t qs .listed)
-  pub order : fromStart n m t qs .listed ≡ map (pointOf 3 n) (placesIn (trailOf n m t) 0 (3 ^ n))
-  pub points : fromStart n m t qs .points ≡ 3 ^ n
-  pub additions : fromStart n m t qs .additions ≡ 2 * (3 ^ n - 1) - n
+pub record WholeWalk (g : Given) (qs : List Request) : Type 0 where
+  pub each : EachReply (trailBehind g) (openedAt g) (callOf g) 0 (openedAt g 0) qs
+  pub last : fromStart g qs .last ≡ openedAt g (3 ^ g .n)
+  pub all : (x : ℕ) → Holds x (fromStart g qs .listed) ↔ CommonZero g x
+  pub once : Once (fromStart g qs .listed)
+  pub order : fromStart g qs .listed ≡ map (pointOf 3 (g .n)) (placesIn (trailBehind g) 0 (3 ^ g .n))
+  pub points : fromStart g qs .points ≡ 3 ^ g .n
+  pub additions : fromStart g qs .additions ≡ allAdditions g

@@ -12,6 +12,7 @@ use Rattle.tables.specs.Monomials.{countOf, indexOf}
 use Rattle.tables.specs.Answers.{packAfter, copyVerdict, differencesAfter}
 use Rattle.walks.specs.Runs.{Request, Sums, SaysEnded}
 use Rattle.walks.specs.Zeros.{Holds, Rising, Once}
+use Rattle.given.specs.Given.{Given, quadratic}
 use Rattle.opening.specs.declared.Record.{Record}
 use Rattle.opening.specs.Opened.{openVerdict, openOf}
 use Rattle.demand.specs.Session.{sessionOf}
@@ -43,15 +44,15 @@ pub record ListsZeros (n m : ℕ) (rows : List ℤ) (l : List ℕ) : Type 0 wher
   pub order : Rising (map (placeOf 3 n) l)
 
 -- the table of differences, where c and d were lent to packing and to taking the differences
-abbrev pub tableFrom : ℕ → ℕ → List ℤ → List ℕ → List ℕ → List ℕ
-tableFrom n m rows c d = differencesAfter n m (packAfter n m rows c) d
+abbrev pub tableFrom : ℕ → ℕ → List ℤ → List ℕ → List ℕ → Given
+tableFrom n m rows c d = quadratic n m (differencesAfter n m (packAfter n m rows c) d)
 
 -- the run of calls on the record that opening at place 0 gives
-abbrev pub runFrom : ℕ → ℕ → List ℕ → List Request → Sums Record
-runFrom n m t qs = sessionOf n m t (openOf n m t 0 .«record») qs
+abbrev pub runFrom : Given → List Request → Sums Record
+runFrom g qs = sessionOf g (openOf g 0 .«record») qs
 
 -- nothing on the way is refused, and every run whose last accepted answer is "ended" lists the zeros of the rows
 pub record FromRows (n m : ℕ) (rows : List ℤ) (c d : List ℕ) : Type 0 where
   pub differences : copyVerdict n m (packAfter n m rows c) d ≡ Done
-  pub opened : openVerdict n m (tableFrom n m rows c d) 0 ≡ Done
-  pub lists : (qs : List Request) → SaysEnded (runFrom n m (tableFrom n m rows c d) qs .told) → ListsZeros n m rows (runFrom n m (tableFrom n m rows c d) qs .listed)
+  pub opened : openVerdict (tableFrom n m rows c d) 0 ≡ Done
+  pub lists : (qs : List Request) → SaysEnded (runFrom (tableFrom n m rows c d) qs .told) → ListsZeros n m rows (runFrom (tableFrom n m rows c d) qs .listed)

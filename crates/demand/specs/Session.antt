@@ -4,10 +4,11 @@ use mathlib.Core.List.{List}
 use Prim.Native.Nat.{ℕ}
 use Rattle.walks.specs.declared.Report.{Report}
 use Rattle.walks.specs.Runs.{Request, Engine, listedIn, Sums, sumsOf}
+use Rattle.given.specs.Given.{Given}
 use Rattle.opening.specs.declared.Record.{Record}
 use Rattle.search.specs.declared.Answer.{Answer}
 use Rattle.search.specs.declared.Answer.the-variants.{Ran, Refused}
-use Rattle.search.specs.Search.{outcomeOf, listOf}
+use Rattle.search.specs.Search.{outcomeOf, listLeft}
 
 -- what an answer tells: its report, or none with a refusal
 abbrev pub toldOf : Answer → Option Report
@@ -19,11 +20,11 @@ abbrev pub listedOf : Answer → List ℕ → List ℕ
 listedOf a l = listedIn (toldOf a) l
 
 -- what a call gives back: the answer and the record of its outcome, and the list as it returned it
-unfoldable pub callOf : ℕ → ℕ → List ℕ → Engine Record
-callOf n m t r q =
-    let o = outcomeOf n m t r (q .budget) (q .list) in
-    record { told = toldOf (o .answer); state = o .«record»; list = listOf n m t r (q .budget) (q .list) }
+unfoldable pub callOf : Given → Engine Record
+callOf g r q =
+    let o = outcomeOf g r (q .budget) (q .list) in
+    record { told = toldOf (o .answer); state = o .«record»; list = listLeft g r (q .budget) (q .list) }
 
 -- a run of calls from a record
-abbrev pub sessionOf : ℕ → ℕ → List ℕ → Record → List Request → Sums Record
-sessionOf n m t r qs = sumsOf (callOf n m t) r qs
+abbrev pub sessionOf : Given → Record → List Request → Sums Record
+sessionOf g r qs = sumsOf (callOf g) r qs

@@ -1,35 +1,31 @@
 -- A call that nothing refuses: the walk from the opened record is the call on the walk of the system, and leaves the record opened where it came to.
 use mathlib.Core.Path.{_≡_, refl, sym, ap, ap₂, subst, _∙_}
-use mathlib.Core.Bool.{Bool, true}
+use mathlib.Core.Bool.{true}
 use mathlib.Core.Logic.{by-cases}
 use mathlib.Core.List.{List}
 use Prim.Native.Nat.{ℕ, _+_, _-_, _%_, _^_, _≤_, _<_}
-use native.Mathlib.Nat.{mod-mod, mod-eq-of-lt}
+use native.Mathlib.Nat.{mod-eq-of-lt}
 use native.Mathlib.Decide.{decLt}
 use native.Mathlib.Omega.{arith}
 use lib.Dec.{leb}
 use lib.ListN.{length, getD, List·getD-eq-default}
 use lib.Seq.{ext-getD}
-use borrow.Author.Tests.{leb-true, lt-ltb}
-use Rattle.refusals.specs.declared.Verdict.the-variants as verdict
+use borrow.Author.Tests.{leb-true}
 use Rattle.trits.specs.declared.Vector.{Vector}
-use Rattle.trits.specs.Trit.{trit, Legal, ofTrits, none}
+use Rattle.trits.specs.Trit.{none}
 use Rattle.trits.proofs.Bits.{and-left, and-right}
-use Rattle.trits.proofs.ExtLaw.{trit-of, legal-of}
-use Rattle.trits.proofs.LegalLaw.{legal-none, trit-lt}
-use Rattle.positions.specs.Positions.{latest}
-use Rattle.gray.specs.Numbers.{pointDigit}
-use Rattle.polynomials.specs.Poly.{Poly, valueOf, changeOf, eval, diff}
-use Rattle.polynomials.proofs.FormLaw.{eval-value, diff-change, table-back, half-three}
+use Rattle.trits.proofs.LegalLaw.{trit-lt}
+use Rattle.polynomials.specs.Poly.{Poly}
+use Rattle.polynomials.proofs.FormLaw.{table-back, half-three}
 use Rattle.tables.specs.Monomials.{indexOf}
 use Rattle.tables.specs.Words.{entry, polyAt}
 use Rattle.tables.proofs.IndexLaw.{index-lt}
 use Rattle.walks.specs.Calls.{stopFrom, pointsIn, reportOf, listAfter}
 use Rattle.walk.specs.declared.Ran.{Ran}
 use Rattle.walk.specs.declared.Walker.{Walker}
-use Rattle.moves.specs.Step.{State, walkOf}
+use Rattle.moves.specs.Step.{State}
 use Rattle.moves.specs.Moves.{product}
-use Rattle.walk.specs.Run.{stateOf, fresh, haltOf, searchOf}
+use Rattle.walk.specs.Run.{stateOf, fresh, searchOf}
 use Rattle.walk.specs.Meaning.{Stands, Tabled, Answers}
 use Rattle.walk.proofs.MeanLaw.{stands-value, stands-slot, opened-stands, differences-tabled}
 use Rattle.walk.proofs.CallLaw.{call-is}
@@ -38,7 +34,7 @@ use Rattle.given.proofs.TableLaw.{within, table-of}
 use Rattle.opening.specs.declared.Record.{Record}
 use Rattle.search.specs.declared.Outcome.{Outcome}
 use Rattle.search.specs.declared.Answer.the-variants as answer
-use Rattle.opening.specs.Opened.{valueAt, slotAt, slotsAt, openedAt}
+use Rattle.opening.specs.Opened.{valueAt, slotsAt, openedAt}
 use Rattle.search.specs.Search.{trailBehind, sameRecord, fits, ranOf}
 use Rattle.search.specs.Parts.{reportedOf}
 use Rattle.opening.proofs.PlaceLaw.{two}
