@@ -212,9 +212,9 @@ pub fn coefficients(n: u64, m: u64, table: &[u64], coefficients: &mut [u64]) -> 
     ensures left { λ r. ⌜ now (coefficients .exit) ≡ cubicCoefficientsAfter n m (now (table .entry)) (now (coefficients .entry)) ⌝ }
     ensures number { λ r. ⌜ codeOf r ≡ codeOf (cubicCopy n m (now (table .entry)) (now (coefficients .entry))) ⌝ }
 {
-    let verdict = check_copy(n, m, table, coefficients.len());
-    if let Verdict::Done = verdict {
+    let judged = check_copy(n, m, table, coefficients.len());
+    if let Verdict::Done = judged {
         coefficients_into(table, coefficients, n as usize);
     }
-    verdict
+    judged
 }

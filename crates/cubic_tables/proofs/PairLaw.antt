@@ -11,7 +11,7 @@ use Rattle.trits.proofs.Bits.{and-left, and-right}
 use Rattle.polynomials.specs.Poly.{Poly}
 use Rattle.tables.specs.Monomials.{countOf, rowStart, indexOf, nth}
 use Rattle.tables.proofs.IndexLaw.{index-closed}
-use Rattle.tables.proofs.MonomialLaw.{nth-quad}
+use Rattle.tables.proofs.MonomialLaw.{nth-quad, Product, find}
 use Rattle.cubic_tables.specs.Order.{tripleStart, tripleIndex, keyOf, cubicCount, pairOf, pairsOf, seatOf}
 use Rattle.cubic_tables.proofs.OrderLaw.{index-base, pair-is}
 
@@ -81,3 +81,29 @@ seat-apart b c e g h l m o k =
   where
     by : (f : Poly) → indexOf 20 b c ≡ indexOf 20 e g → f .quad b c ≡ f .quad e g
     by f i = sym (nth-quad 20 f b c h l) ∙ ap (nth 20 f) i ∙ nth-quad 20 f e g m o
+
+-- and each seat its pair
+all-rows : rowStart 20 20 ≡ 210
+unfolding rowStart
+all-rows = refl
+
+pub record Seat (k : ℕ) : Type 0 where
+  pub first : ℕ
+  pub second : ℕ
+  pub order : first ≤ second
+  pub below : second < 20
+  pub is : seatOf first second ≡ k
+
+pub seat-of : (k : ℕ) → k < 210 → Seat k
+seat-of k l =
+    let f = find 20 k (rw all-rows l) in
+    let o : f .row ≤ f .row + f .place = omega arith in
+    let w = f .within in
+    let d : f .row + f .place - f .row ≡ f .place = omega arith in
+    record {
+      first = f .row;
+      second = f .row + f .place;
+      order = o;
+      below = w;
+      is = pair-row 20 (f .row) (f .row + f .place) o w ∙ ap (λ (x : ℕ). rowStart 20 (f .row) + x) d ∙ sym (f .number);
+    }

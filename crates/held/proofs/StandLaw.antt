@@ -1,6 +1,6 @@
 -- A walk that moves what its states hold keeps what they stand for, and a search over it is a call on the trail of its equations.
-use mathlib.Core.Path.{_≡_, refl, sym, ap, _∙_}
-use mathlib.Core.Bool.{Bool, true, false}
+use mathlib.Core.Path.{_≡_, refl, sym, ap, subst, _∙_}
+use mathlib.Core.Bool.{Bool, true, false, _||_}
 use mathlib.Core.Logic.{by-cases}
 use mathlib.Core.List.{List, []}
 use Prim.Native.Nat.{ℕ, zero, suc, _+_, _-_, _%_, _^_, _<_, _≤_, min}
@@ -14,8 +14,9 @@ use Rattle.residues.proofs.ModLaw.{Cong, cof, csym}
 use Rattle.positions.specs.Positions.{positions}
 use Rattle.gray.specs.Numbers.{pointDigit, pointOf}
 use Rattle.positions.proofs.PositionLaw.{positions-none}
-use Rattle.walks.specs.Walk.{Walk, stepOf}
-use Rattle.walks.proofs.FollowLaw.{Counts, Follows}
+use Rattle.walks.specs.Walk.{Walk, stepOf, runOf}
+use Rattle.walks.specs.Calls.{Answered}
+use Rattle.walks.proofs.FollowLaw.{Counts, Follows, answers}
 use Rattle.held.specs.Held.{change, held, move, along}
 use Rattle.held.specs.Stands.{Rises, Stands, Tabled, zeros, trailOf}
 use Rattle.held.proofs.FlatLaw.{Fun, Flat, Ext}
@@ -118,3 +119,15 @@ module _ (q : ℕ) (two : 1 < q) (d n : ℕ) (F : ℕ → Fun) (ext : (e : ℕ) 
           hit = λ s h l z. law .hit s (zero-at s (omega arith) h ∙ z);
           miss = λ s h l z. law .miss s (zero-at s (omega arith) h ∙ z);
         }
+
+    -- and it answers as such a call does, from the place where the state stands, with nothing counted before; its state stands where it stopped
+    pub call : (halt : S → Bool) → ((s : S) → halt s ≡ (eqb (W .place s) e || eqb (C .found s) (length (C .list s))))
+        → (b p : ℕ) (s : S) → W .place s ≡ p → p ≤ e → Right s → C .found s ≡ 0 → C .additions s ≡ 0
+        → Answered (trailOf q d F n m e) b p (C .list s) (W .place (runOf q W halt b s)) (C .additions (runOf q W halt b s)) (C .found (runOf q W halt b s)) (C .list (runOf q W halt b s))
+        × Right (runOf q W halt b s)
+    call halt halts b p s i l h f a =
+        let w = answers (trailOf q d F n m e) q W C Right follows halt halts b s h (omega arith) f in
+        let r = runOf q W halt b s in
+        let k : Answered (trailOf q d F n m e) b (W .place s) (C .list s) (W .place r) (C .additions r) (C .found r) (C .list r) =
+        record { place = w .place; additions = omega (arith, w .additions); found = w .found; stop = w .stop; list = w .list } in
+        (subst (λ (x : ℕ). Answered (trailOf q d F n m e) b x (C .list s) (W .place r) (C .additions r) (C .found r) (C .list r)) i k, w .right)

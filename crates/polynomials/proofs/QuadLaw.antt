@@ -15,7 +15,7 @@ use Rattle.gray.specs.Numbers.{pointDigit}
 use Rattle.positions.specs.Positions.{lowestOf, positions, latest}
 use Rattle.gray.proofs.GrayLaw.{gray-step}
 use Rattle.positions.proofs.PowerLaw.{power-positions}
-use Rattle.gray.proofs.LatestLaw.{latest-start, latest-self, latest-other, latest-move}
+use Rattle.gray.proofs.LatestLaw.{latest-start, latest-move}
 use Rattle.held.specs.Held.{begins, firstOf, change, held, entry, along}
 use Rattle.held.specs.Stands.{Rises}
 use Rattle.held.proofs.HeldLaw.{begins-append, held-step}
@@ -26,10 +26,11 @@ use Rattle.held.proofs.ConstantLaw.{nowhere, deltas, held-entry, entry-is}
 use Rattle.held.proofs.RiseLaw.{positions-rise}
 use Rattle.held.proofs.PointLaw.{allOf, point-is}
 use Rattle.held.proofs.ValuesLaw.{latest-all, latest-one}
-use Rattle.polynomials.specs.Poly.{Poly, valueOf, changeOf, eval, slope, diff, prev, tableOf}
+use Rattle.polynomials.specs.Poly.{Poly, valueOf, eval, slope, diff, prev, tableOf}
 use Rattle.polynomials.proofs.PolyLaw.{Next, diff-is, diff-moves, slope-self, slope-above, slope-prev}
 use Rattle.polynomials.proofs.TableLaw.{table-lin, table-same, table-other}
-use Rattle.polynomials.proofs.FormLaw.{eval-value, diff-change}
+use Rattle.polynomials.proofs.FormLaw.{eval-value}
+use Rattle.polynomials.proofs.ChangeLaw.{latest-above}
 use Rattle.polynomials.proofs.TermsLaw.{flat-value, ext-value}
 
 module _ (q : ℕ) (two : 1 < q) (f : Poly) (n : ℕ) where
@@ -61,20 +62,9 @@ module _ (q : ℕ) (two : 1 < q) (f : Poly) (n : ℕ) where
   change-at b zero l h e = absurd (omega arith)
   change-at b (suc p) l h e = let m : suc p - 1 ≡ p = omega arith in change-diff b p l e ⨾ cof (ap (λ (x : ℕ). diff f n b (pointDigit q x)) (sym m))
 
-  above-zero : (b p : ℕ) → 0 < latest q b p
-  above-zero b zero = rw (latest-start q two b) (one-le-pow b q pos)
-  above-zero b (suc p) =
-      by-cases (ℕ-discrete b (lowestOf q (suc p)))
-      (λ e. rw (latest-self q two b p (sym e)) (omega arith))
-      (λ d. rw (latest-other q two b p d) (above-zero b p))
-
   pub slot-is : (b p : ℕ) → b < n → Cong q (held q v (b ∷ []) p) (diff f n b (pointDigit q (latest q b p - 1)))
   unfolding held
-  slot-is b p l = cof (ap (change q v 1) (latest-one q two b p)) ⨾ change-at b (latest q b p) l (above-zero b p) (latest-move q two b p)
-
-  -- in document 01's words: the system after adding 1 to b, minus the system, at the point just before the latest move of b
-  pub slot-change : (b p : ℕ) → b < n → held q v (b ∷ []) p % q ≡ changeOf q f n b (pointDigit q (latest q b p - 1))
-  slot-change b p l = slot-is b p l .same ∙ diff-change q two f n b (pointDigit q (latest q b p - 1)) l
+  slot-is b p l = cof (ap (change q v 1) (latest-one q two b p)) ⨾ change-at b (latest q b p) l (latest-above q two b p) (latest-move q two b p)
 
   -- ---- the entry of xb
   -- the point before the first move of b has q - 1 at the unknown before b, and is 0 elsewhere

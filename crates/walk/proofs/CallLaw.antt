@@ -16,7 +16,7 @@ use Rattle.polynomials.specs.Poly.{Poly}
 use Rattle.polynomials.proofs.TermsLaw.{flat-value, ext-value}
 use Rattle.walks.specs.Walk.{stepOf, runOf}
 use Rattle.walks.specs.Calls.{Trail}
-use Rattle.walks.proofs.FollowLaw.{Counts, Follows, answers}
+use Rattle.walks.proofs.FollowLaw.{Counts}
 use Rattle.held.specs.Held.{move}
 use Rattle.held.specs.Stands.{Rises, zeros}
 use Rattle.held.proofs.RiseLaw.{positions-rise}
@@ -41,7 +41,7 @@ same-bool false true f g = g refl
 same-bool false false f g = refl
 
 -- a vector is zero exactly if all its trits are
-zero-is : (m : ℕ) (f : ℕ → ℕ) (x : Vector) → Holds m f x → isZero x ≡ zeros 3 m f
+pub zero-is : (m : ℕ) (f : ℕ → ℕ) (x : Vector) → Holds m f x → isZero x ≡ zeros 3 m f
 zero-is m f x h =
     let z = zero-test m x (h .legal) in
     same-bool (isZero x) (zeros 3 m f)
@@ -100,6 +100,9 @@ module _ (F : ℕ → Poly) (n m e : ℕ) (T : ℕ → ℕ → Vector) (table : 
   pos : 0 < 3
   pos = omega arith
 
+  some : 0 < 2
+  some = omega arith
+
   abbrev Q : Trail
   Q = trailOf F n m e
 
@@ -122,7 +125,7 @@ module _ (F : ℕ → Poly) (n m e : ℕ) (T : ℕ → ℕ → Vector) (table : 
 
   Right : State → Type 0
   Right = any.Right 3 two 2 n (valuesOf F n) (λ k. ext-value 3 pos (F k) n) (λ k. flat-value 3 pos (F k) n) addOf (Holds m) (holds-plus m) (holds-like m)
-      (omega arith) m e far (walkOf n T) counts isZero (zero-is m) (Room n) (view T) law
+      some m e far (walkOf n T) counts isZero (zero-is m) (Room n) (view T) law
 
   right-stands : (s : State) → Right s → Stands F n m (s .place) s
   unfolding Right
@@ -143,24 +146,13 @@ module _ (F : ℕ → Poly) (n m e : ℕ) (T : ℕ → ℕ → Vector) (table : 
         stands = λ L l r. rw (view-state T s L l) (h .holds L l r);
       }
 
-  follows : Follows Q 3 State (walkOf n T) counts Right
-  unfolding Right
-  follows =
-      any.follows 3 two 2 n (valuesOf F n) (λ k. ext-value 3 pos (F k) n) (λ k. flat-value 3 pos (F k) n) addOf (Holds m) (holds-plus m) (holds-like m)
-      (omega arith) m e far (walkOf n T) counts isZero (zero-is m) (Room n) (view T) law
-
   -- the search answers as a call on the trail does, and its state stands where it stopped
-  call-here : (b : ℕ) (s : State) → s .place ≤ e → Stands F n m (s .place) s → s .found ≡ 0 → s .additions ≡ 0
-      → Answers Q b (s .place) (s .list) (runOf 3 (walkOf n T) (haltOf e) b s)
-      × Stands F n m ((runOf 3 (walkOf n T) (haltOf e) b s) .place) (runOf 3 (walkOf n T) (haltOf e) b s)
-  call-here b s l h f a =
-      let w = answers Q 3 (walkOf n T) counts Right follows (haltOf e) (λ r. refl) b s (stands-right s h) l f in
-      (record { place = w .place; additions = omega (arith, w .additions); found = w .found; stop = w .stop; list = w .list }, right-stands _ (w .right))
-
   pub call-is : (b p : ℕ) (s : State) → p ≤ e → Stands F n m p s → s .found ≡ 0 → s .additions ≡ 0
       → Answers Q b p (s .list) (runOf 3 (walkOf n T) (haltOf e) b s)
       × Stands F n m ((runOf 3 (walkOf n T) (haltOf e) b s) .place) (runOf 3 (walkOf n T) (haltOf e) b s)
+  unfolding Right
   call-is b p s l h f a =
-      let r = runOf 3 (walkOf n T) (haltOf e) b s in
-      subst (λ (x : ℕ). Answers Q b x (s .list) r × Stands F n m (r .place) r) (h .place)
-      (call-here b s (omega (arith, h .place)) (subst (λ (x : ℕ). Stands F n m x s) (sym (h .place)) h) f a)
+      let w = any.call 3 two 2 n (valuesOf F n) (λ k. ext-value 3 pos (F k) n) (λ k. flat-value 3 pos (F k) n) addOf (Holds m) (holds-plus m) (holds-like m)
+      some m e far (walkOf n T) counts isZero (zero-is m) (Room n) (view T) law
+      (haltOf e) (λ r. refl) b p s (h .place) l (stands-right s (subst (λ (x : ℕ). Stands F n m x s) (sym (h .place)) h)) f a in
+      (w .0, right-stands _ (w .1))

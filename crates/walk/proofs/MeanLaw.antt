@@ -22,7 +22,9 @@ use Rattle.held.proofs.KeepLaw.{move-self, move-other, move-leaf}
 use Rattle.held.proofs.StandLaw.{held-value}
 use Rattle.held.proofs.ExactLaw.{pair-place}
 use Rattle.polynomials.specs.Poly.{Poly, valueOf, changeOf, tableOf}
-use Rattle.polynomials.proofs.QuadLaw.{slot-change, quad-is}
+use Rattle.polynomials.proofs.QuadLaw.{quad-is}
+use Rattle.polynomials.proofs.ChangeLaw.{slot-by}
+use Rattle.polynomials.proofs.TermsLaw.{ext-value}
 use Rattle.moves.specs.Step.{State, push, lift, bump, moveOf}
 use Rattle.walk.specs.Meaning.{heldBy, entryBy, Stands, Tabled}
 use Rattle.moves.proofs.MoveLaw.{two}
@@ -103,7 +105,7 @@ module _ (F : ℕ → Poly) (n m p : ℕ) (s : State) where
   slot b e = changeOf 3 (F e) n b (pointDigit 3 (latest 3 b (p - 1) - 1))
 
   held-slot : (b e : ℕ) → b < n → held 3 (along 3 (valueOf (F e) n)) (b ∷ []) (p - 1) % 3 ≡ slot b e % 3
-  held-slot b e l = sym (mod-mod _ 3) ∙ ap (λ (x : ℕ). x % 3) (slot-change 3 two (F e) n b (p - 1) l)
+  held-slot b e l = sym (mod-mod _ 3) ∙ ap (λ (x : ℕ). x % 3) (slot-by 3 two (valueOf (F e) n) (ext-value 3 (omega arith) (F e) n) b (p - 1))
 
   pub stands-value : Stands F n m p s → s .value ≡ ofTrits m value
   unfolding heldBy

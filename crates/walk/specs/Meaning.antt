@@ -1,12 +1,12 @@
 -- What a state says of the system behind the table, and which trail of calls the search follows: held/specs/Stands in base 3 and degree 2.
 use mathlib.Core.Path.{_≡_}
 use mathlib.Core.List.{List, [], _∷_}
-use Prim.Native.Nat.{ℕ, _+_, _≤_}
+use Prim.Native.Nat.{ℕ, _≤_}
 use lib.ListN.{length, getD}
 use Rattle.trits.specs.declared.Vector.{Vector}
 use Rattle.trits.specs.Trit.{Holds, none}
 use Rattle.polynomials.specs.Poly.{Poly, valueOf}
-use Rattle.walks.specs.Calls.{Trail, reportOf, stopAt, listAfter}
+use Rattle.walks.specs.Calls.{Trail, Answered}
 use Rattle.held.specs.Stands as any
 use Rattle.moves.specs.Step.{State}
 
@@ -41,10 +41,6 @@ Tabled F n m T = any.Tabled (Holds m) 3 2 n (valuesOf F n) (entryBy T)
 abbrev pub trailOf : (ℕ → Poly) → ℕ → ℕ → ℕ → Trail
 trailOf F n m e = any.trailOf 3 2 (valuesOf F n) n m e
 
--- r is what a call on a trail leaves, from place p with the budget b and the list l: the report's counts and stop, and the list after
-pub record Answers (T : Trail) (b p : ℕ) (l : List ℕ) (r : State) : Type 0 where
-  pub place : r .place ≡ p + (reportOf T b (length l) p) .points
-  pub additions : r .additions ≡ (reportOf T b (length l) p) .additions
-  pub found : r .found ≡ (reportOf T b (length l) p) .found
-  pub stop : stopAt T (length l) (r .found) (r .place) ≡ (reportOf T b (length l) p) .stop
-  pub list : r .list ≡ listAfter T b p l
+-- r is what a call on a trail leaves, from place p with the budget b and the list l
+abbrev pub Answers : Trail → ℕ → ℕ → List ℕ → State → Type 0
+Answers T b p l r = Answered T b p l (r .place) (r .additions) (r .found) (r .list)

@@ -82,6 +82,15 @@ reportOf T b c p = reportIn T c p (pointsIn T b c p)
 unfoldable pub listAfter : Trail → ℕ → ℕ → List ℕ → List ℕ
 listAfter T b p l = zerosIn T p (pointsIn T b (length l) p) ++ drop (length (zerosIn T p (pointsIn T b (length l) p))) l
 
+-- what a search leaves that answers as a call does, from place p with the budget b and the list l: the place x that it came to,
+-- a additions and f zeros, as the report says, its stop, and the list k after it
+pub record Answered (T : Trail) (b p : ℕ) (l : List ℕ) (x a f : ℕ) (k : List ℕ) : Type 0 where
+  pub place : x ≡ p + (reportOf T b (length l) p) .points
+  pub additions : a ≡ (reportOf T b (length l) p) .additions
+  pub found : f ≡ (reportOf T b (length l) p) .found
+  pub stop : stopAt T (length l) f x ≡ (reportOf T b (length l) p) .stop
+  pub list : k ≡ listAfter T b p l
+
 -- the same walk with another end
 abbrev pub until : Trail → ℕ → Trail
 until T e = record { end = e; zeroAt = T .zeroAt; entry = T .entry; cost = T .cost }
