@@ -11,4 +11,5 @@ pub mod ConstantLaw
 pub mod DegreeLaw
 pub mod ValuesLaw
 pub mod ExactLaw
+pub mod CountLaw
 pub mod StandLaw
