@@ -12,4 +12,5 @@ pub mod DegreeLaw
 pub mod ValuesLaw
 pub mod ExactLaw
 pub mod CountLaw
+pub mod VisitLaw
 pub mod StandLaw
