@@ -24,16 +24,16 @@ two-table e h b d c = cdrop _ ⨾ c ⨾ csym (cdrop _)
 
 module _ (n : ℕ) (e h : Triples) (a : Agree n e h) where
   -- ---- tables
-  prev-like : (b k : ℕ) → b ≤ k → k < n → Cong 3 (prev3 e b k) (prev3 h b k)
+  pub prev-like : (b k : ℕ) → b ≤ k → k < n → Cong 3 (prev3 e b k) (prev3 h b k)
   unfolding prev3
   prev-like zero k l m = crefl 0
   prev-like (suc b) k l m = a .all b (suc b) k (omega arith) l m
 
-  high-like : (b c k : ℕ) → b < c → c ≤ k → k < n → Cong 3 (high3 e b c k) (high3 h b c k)
+  pub high-like : (b c k : ℕ) → b < c → c ≤ k → k < n → Cong 3 (high3 e b c k) (high3 h b c k)
   unfolding high3
   high-like b c k l m o = cadd (cadd (a .two b k (omega arith) o) (a .all b c k l m o)) (prev-like b k (omega arith) o)
 
-  low-like : (b c : ℕ) → b < c → c < n → Cong 3 (low3 e b c) (low3 h b c)
+  pub low-like : (b c : ℕ) → b < c → c < n → Cong 3 (low3 e b c) (low3 h b c)
   low-like b zero l m = absurd (omega arith)
   low-like b (suc c) l m =
       by-cases (ℕ-discrete b c)

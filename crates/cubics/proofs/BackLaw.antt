@@ -108,20 +108,20 @@ module _ (t : Triples) where
 
 -- ---- a table, its coefficients, and their table: the definitions, turned round
 module _ (e : Triples) where
-  two-of : (b d : ℕ) → backOf3 e .two b d ≡ twoFrom (prevBack e b) e b d
+  pub two-of : (b d : ℕ) → backOf3 e .two b d ≡ twoFrom (prevBack e b) e b d
   unfolding backOf3
   two-of b d = refl
 
-  all-of : (b c d : ℕ) → backOf3 e .all b c d ≡ allFrom (prevBack e b) e b c (lowBack e b c) d
+  pub all-of : (b c d : ℕ) → backOf3 e .all b c d ≡ allFrom (prevBack e b) e b c (lowBack e b c) d
   unfolding backOf3
   all-of b c d = refl
 
-  prev-back : (b k : ℕ) → prev3 (backOf3 e) b k ≡ prevBack e b k
+  pub prev-back : (b k : ℕ) → prev3 (backOf3 e) b k ≡ prevBack e b k
   unfolding prev3 prevBack backOf3
   prev-back zero k = refl
   prev-back (suc a) k = ap (λ (x : ℕ). allFrom (prevBack e a) e a (suc a) x k) (back-low-same e a)
 
-  low-back : (b c : ℕ) → b < c → low3 (backOf3 e) b c ≡ lowBack e b c
+  pub low-back : (b c : ℕ) → b < c → low3 (backOf3 e) b c ≡ lowBack e b c
   low-back b zero l = absurd (omega arith)
   low-back b (suc c) l =
       by-cases (ℕ-discrete b c)

@@ -108,13 +108,13 @@ none-is f b = cof (bracket-none f b ∙ six (f .cube b b b)) ⨾ cwhole 0 (2 * f
 
 module _ (f : Cubic) (b c : ℕ) (l : b < c) where
   -- T of the pair b, c
-  lineT : ℕ → ℕ
+  pub lineT : ℕ → ℕ
   lineT i = lineOf 3 1 (λ j. bracket f b j i) b c
 
   apart : c ≡ b → ⊥
   apart e = omega arith
 
-  t-is : (k : ℕ) → lineT k ≡ 1 * bracket f b b k + bracket f b c k + 2 * (2 * underOf (λ j. bracket f b j k) b)
+  pub t-is : (k : ℕ) → lineT k ≡ 1 * bracket f b b k + bracket f b c k + 2 * (2 * underOf (λ j. bracket f b j k) b)
   unfolding lineT
   t-is k = line-other 3 1 (λ j. bracket f b j k) b c apart
 
@@ -127,7 +127,7 @@ module _ (f : Cubic) (b c : ℕ) (l : b < c) where
       ring : (s a p : ℕ) → 1 * s + a + 2 * (2 * p) ≡ s + a + p + 3 * p
       ring s a p = omega arith
 
-lowT : (f : Cubic) (b c : ℕ) (l : b < c) → Cong 3 (underOf (lineT f b c l) c) (low3 (triplesOf f) b c)
+pub lowT : (f : Cubic) (b c : ℕ) (l : b < c) → Cong 3 (underOf (lineT f b c l) c) (low3 (triplesOf f) b c)
 unfolding underOf
 lowT f b zero l = absurd (omega arith)
 lowT f b (suc p) l =

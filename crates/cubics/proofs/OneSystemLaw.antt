@@ -36,19 +36,19 @@ pos = omega arith
 
 -- ---- coefficients from brackets
 module _ (t : Triples) where
-  from-none : (i : ℕ) → cubesFrom t i i i ≡ 0
+  pub from-none : (i : ℕ) → cubesFrom t i i i ≡ 0
   unfolding cubesFrom
   from-none i = rw (same-self i, cubesFrom) (rw (same-self i, cubesFrom))
 
-  from-two : (i k : ℕ) → (i ≡ k → ⊥) → cubesFrom t i i k ≡ 2 * t .two i k
+  pub from-two : (i k : ℕ) → (i ≡ k → ⊥) → cubesFrom t i i k ≡ 2 * t .two i k
   unfolding cubesFrom
   from-two i k n = rw (same-self i, same-other i k n, cubesFrom)
 
-  from-last : (i j : ℕ) → (i ≡ j → ⊥) → cubesFrom t i j j ≡ 2 * t .all i j j
+  pub from-last : (i j : ℕ) → (i ≡ j → ⊥) → cubesFrom t i j j ≡ 2 * t .all i j j
   unfolding cubesFrom
   from-last i j n = rw (same-other i j n, same-self j, cubesFrom)
 
-  from-all : (i j k : ℕ) → (i ≡ j → ⊥) → (j ≡ k → ⊥) → cubesFrom t i j k ≡ t .all i j k
+  pub from-all : (i j k : ℕ) → (i ≡ j → ⊥) → (j ≡ k → ⊥) → cubesFrom t i j k ≡ t .all i j k
   unfolding cubesFrom
   from-all i j k n m = rw (same-other i j n, same-other j k m, cubesFrom)
 
@@ -58,7 +58,7 @@ four x = cof (is x) ⨾ cwhole x x
     is : (x : ℕ) → 2 * (2 * x) ≡ x + 3 * x
     is x = omega arith
 
-from-agree : (n : ℕ) (t : Triples) (f : Cubic) → ((i j k : ℕ) → f .cube i j k ≡ cubesFrom t i j k) → Agree n (triplesOf f) t
+pub from-agree : (n : ℕ) (t : Triples) (f : Cubic) → ((i j k : ℕ) → f .cube i j k ≡ cubesFrom t i j k) → Agree n (triplesOf f) t
 unfolding triplesOf
 from-agree n t f e = record {
   two = λ b d l m. cof (ap (λ (x : ℕ). 2 * x) (e b b d ∙ from-two t b d (λ i. omega arith))) ⨾ four (t .two b d);

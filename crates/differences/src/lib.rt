@@ -62,7 +62,7 @@ fn turn(from: &[u64], to: &mut [u64], n: usize, i: usize, p: Vector)
 }
 
 // The differences of the coefficients `from`, into `to`.
-fn differences_into(from: &[u64], to: &mut [u64], n: usize)
+pub fn differences_into(from: &[u64], to: &mut [u64], n: usize)
     requires { ⌜ (n ≤ mostUnknowns) × (length (now from) ≡ 2 * countOf n) × (length (now to) ≡ 2 * countOf n) ⌝ }
     ensures { λ _. ⌜ ((m : ℕ) → Table n m (now (from .entry)) → now (to .exit) ≡ differencesOf n m (now (from .entry))) ⌝ }
 {

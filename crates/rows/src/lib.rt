@@ -10,15 +10,14 @@ use trits::Vector;
 use trits::with_trit;
 ghost use mathlib.Core.Path.{_≡_};
 ghost use mathlib.Core.List.{List};
-ghost use Prim.Native.Nat.{ℕ, _+_, _*_, _<_, _≤_};
+ghost use Prim.Native.Nat.{ℕ, _+_, _*_, _^_, _<_, _≤_};
 ghost use lib.ListN.{length};
-ghost use Rattle.refusals.specs.Limits.{mostUnknowns, mostEquations};
-ghost use Rattle.refusals.specs.Refusal.{codeOf};
+ghost use Rattle.refusals.specs.Limits.{mostEquations};
+ghost use Rattle.refusals.specs.Refusal.{codeOf, after};
 ghost use Rattle.trits.specs.Trit.{none};
-ghost use Rattle.tables.specs.Monomials.{countOf};
-ghost use Rattle.tables.specs.Words.{entry, Written, packed};
+ghost use Rattle.tables.specs.Words.{entry, Written, packedRows};
 ghost use Rattle.rows.specs.Parts.{RowPacked};
-ghost use Rattle.tables.specs.Answers.{packVerdict, packAfter};
+ghost use Rattle.tables.specs.Answers.{rowsVerdict, packVerdict, packAfter};
 
 // Every entry becomes zero.
 fn clear(table: &mut [u64], entries: usize)
@@ -46,12 +45,11 @@ fn pack_row(row: &[i8], e: u64, table: &mut [u64])
     }
 }
 
-// The rows of m equations, each handed on as a part of the row table.
-fn pack_rows(n: usize, m: usize, rows: &[i8], table: &mut [u64])
-    requires { ⌜ (1 ≤ n) × (n ≤ mostUnknowns) × (m ≤ mostEquations) × (length (now rows) ≡ m * countOf n) × (length (now table) ≡ 2 * countOf n) ⌝ }
-    ensures { λ _. ⌜ now (table .exit) ≡ packed n m (now (rows .entry)) ⌝ }
+// The rows of m equations, of so many numbers each: every one is handed on as a part of the row table.
+fn pack_rows(entries: usize, m: usize, rows: &[i8], table: &mut [u64])
+    requires { ⌜ (entries < 2 ^ 32) × (m ≤ mostEquations) × (length (now rows) ≡ m * entries) × (length (now table) ≡ 2 * entries) ⌝ }
+    ensures { λ _. ⌜ now (table .exit) ≡ packedRows entries m (now (rows .entry)) ⌝ }
 {
-    let entries = count(n);
     clear(table, entries);
     let mut e: usize = 0;
     while e < m {
@@ -62,7 +60,23 @@ fn pack_rows(n: usize, m: usize, rows: &[i8], table: &mut [u64])
     }
 }
 
-// Signed rows, m times N numbers, into a table of words: `table` is written whole, or on a refusal left as it was.
+// Signed rows, m times `entries` numbers, into a table of so many entries: `table` is written whole, or on a refusal left as it was.
+pub fn pack_entries(m: u64, entries: usize, rows: &[i8], table: &mut [u64]) -> Verdict
+    requires { ⌜ (m ≤ mostEquations) × (entries < 2 ^ 32) ⌝ }
+    ensures { λ r. ⌜ r ≡ rowsVerdict entries m (now (rows .entry)) (now (table .entry)) ⌝ }
+    ensures left { λ r. ⌜ now (table .exit) ≡ after (rowsVerdict entries m (now (rows .entry)) (now (table .entry))) (now (table .entry)) (packedRows entries m (now (rows .entry))) ⌝ }
+{
+    if rows.len() != (m as usize) * entries {
+        return Verdict::Refused(Refusal::Length);
+    }
+    if table.len() != 2 * entries {
+        return Verdict::Refused(Refusal::Length);
+    }
+    pack_rows(entries, m as usize, rows, table);
+    Verdict::Done
+}
+
+// The rows of a system of n unknowns: its sizes are asked first.
 pub fn pack(n: u64, m: u64, rows: &[i8], table: &mut [u64]) -> Verdict
     ensures answer { λ r. ⌜ r ≡ packVerdict n m (now (rows .entry)) (now (table .entry)) ⌝ }
     ensures left { λ r. ⌜ now (table .exit) ≡ packAfter n m (now (rows .entry)) (now (table .entry)) ⌝ }
@@ -71,13 +85,5 @@ pub fn pack(n: u64, m: u64, rows: &[i8], table: &mut [u64]) -> Verdict
     if !sizes_fit(n, m) {
         return Verdict::Refused(Refusal::Size);
     }
-    let entries = count(n as usize);
-    if rows.len() != (m as usize) * entries {
-        return Verdict::Refused(Refusal::Length);
-    }
-    if table.len() != 2 * entries {
-        return Verdict::Refused(Refusal::Length);
-    }
-    pack_rows(n as usize, m as usize, rows, table);
-    Verdict::Done
+    pack_entries(m, count(n as usize), rows, table)
 }

@@ -12,7 +12,7 @@ use Rattle.tables.specs.Monomials.{countOf, rowStart, indexOf, productNt
 use Rattle.tables.proofs.IndexLaw.{count-is}
 
 -- the first of suc r rows taken off
-row-peel : (r a : ℕ) → rowStart (suc r) (suc a) ≡ suc r + rowStart r a
+pub row-peel : (r a : ℕ) → rowStart (suc r) (suc a) ≡ suc r + rowStart r a
 unfolding rowStart
 row-peel r zero = omega arith
 row-peel r (suc a) = omega (arith, row-peel r a)
@@ -29,7 +29,7 @@ product-later f r i d = rw (le-ltb (suc r + d) (suc r) (omega arith), productNth
     less r d = omega arith
 
 -- place d of row a, of r rows that start at row i
-product-at : (f : Poly) (r i a d : ℕ) → a + d < r → productNth f r i (rowStart r a + d) ≡ f .quad (i + a) (i + a + d)
+pub product-at : (f : Poly) (r i a d : ℕ) → a + d < r → productNth f r i (rowStart r a + d) ≡ f .quad (i + a) (i + a + d)
 unfolding rowStart
 product-at f zero i a d h = absurd (omega arith)
 product-at f (suc r) i zero d h =
@@ -76,13 +76,13 @@ nth-quad n f i j h l =
     end i j h = omega arith
 
 -- number d among the products of r unknowns is that of row a, place b
-record Product (r d : ℕ) : Type 0 where
-  row : ℕ
-  place : ℕ
-  within : row + place < r
-  number : d ≡ rowStart r row + place
+pub record Product (r d : ℕ) : Type 0 where
+  pub row : ℕ
+  pub place : ℕ
+  pub within : row + place < r
+  pub number : d ≡ rowStart r row + place
 
-find : (r d : ℕ) → d < rowStart r r → Product r d
+pub find : (r d : ℕ) → d < rowStart r r → Product r d
 unfolding rowStart
 find zero d h = absurd (omega arith)
 find (suc r) d h =

@@ -38,10 +38,14 @@ legalFront m [] = 0
 legalFront m (h ∷ []) = 0
 legalFront m (h ∷ l ∷ t) = elim (isLegal m (record { high = h; low = l })) [ true ↦ suc (legalFront m t) | false ↦ 0 ]
 
--- a legal table of n unknowns and m equations: of the exact length, every pair legal
-pub record Table (n m : ℕ) (t : List ℕ) : Type 0 where
-  pub size : length t ≡ 2 * countOf n
-  pub legal : (k : ℕ) → k < countOf n → Legal m (entry t k)
+-- a legal table of N entries and m equations: of the exact length, every pair legal
+pub record Entries (N m : ℕ) (t : List ℕ) : Type 0 where
+  pub size : length t ≡ 2 * N
+  pub legal : (k : ℕ) → k < N → Legal m (entry t k)
+
+-- a legal table of n unknowns and m equations
+abbrev pub Table : ℕ → ℕ → List ℕ → Type 0
+Table n m t = Entries (countOf n) m t
 
 -- equation e of the system whose coefficients a table holds
 unfoldable pub polyAt : ℕ → List ℕ → ℕ → Poly
@@ -52,9 +56,12 @@ polyAt n t e =
 unfoldable pub wordsOf : ℕ → ℕ → (ℕ → Poly) → List ℕ
 wordsOf n m F = tabled (countOf n) (λ k. ofTrits m (λ e. nth n (F e) k))
 
--- signed rows as words: trit e of entry k is the remainder of coefficient k of row e
+-- signed rows of N numbers as words: trit e of entry k is the remainder of number k of row e
+abbrev pub packedRows : ℕ → ℕ → List ℤ → List ℕ
+packedRows N m rows = tabled N (λ k. ofTrits m (λ e. floorMod 3 (getD rows (e * N + k) (pos 0))))
+
 unfoldable pub packed : ℕ → ℕ → List ℤ → List ℕ
-packed n m rows = tabled (countOf n) (λ k. ofTrits m (λ e. floorMod 3 (getD rows (e * countOf n + k) (pos 0))))
+packed n m rows = packedRows (countOf n) m rows
 
 -- the table of differences of a coefficient table, and back
 unfoldable pub differencesOf : ℕ → ℕ → List ℕ → List ℕ

@@ -7,12 +7,12 @@ use refusals::sizes_fit;
 use trits::legal;
 ghost use mathlib.Core.Path.{_≡_};
 ghost use mathlib.Core.List.{List};
-ghost use Prim.Native.Nat.{ℕ, _*_, _≤_};
+ghost use Prim.Native.Nat.{ℕ, _*_, _^_, _<_};
 ghost use lib.ListN.{length};
 ghost use Rattle.refusals.specs.Refusal.{codeOf};
 ghost use Rattle.tables.specs.Monomials.{countOf};
 ghost use Rattle.tables.specs.Words.{legalFront};
-ghost use Rattle.tables.specs.Answers.{checkedOf, copyVerdict};
+ghost use Rattle.tables.specs.Answers.{checkedOf, entriesVerdict, copyVerdict};
 
 // How many of the entries at the front of a table are legal: all, or the number of the first that is not.
 pub(crate) fn legal_front(m: u64, entries: usize, table: &[u64]) -> usize
@@ -29,14 +29,11 @@ pub(crate) fn legal_front(m: u64, entries: usize, table: &[u64]) -> usize
     k
 }
 
-// One table read, and another of `words` words to be written: all lengths come before the pairs.
-pub fn check_copy(n: u64, m: u64, from: &[u64], words: usize) -> Verdict
-    ensures { λ r. ⌜ ((to : List ℕ) → length to ≡ words → r ≡ copyVerdict n m (now (from .entry)) to) ⌝ }
+// One table read, and another of `words` words to be written, of so many entries: both lengths come before the pairs.
+pub fn check_entries(m: u64, entries: usize, from: &[u64], words: usize) -> Verdict
+    requires { ⌜ entries < 2 ^ 32 ⌝ }
+    ensures { λ r. ⌜ ((to : List ℕ) → length to ≡ words → r ≡ entriesVerdict entries m (now (from .entry)) to) ⌝ }
 {
-    if !sizes_fit(n, m) {
-        return Verdict::Refused(Refusal::Size);
-    }
-    let entries = count(n as usize);
     if from.len() != 2 * entries {
         return Verdict::Refused(Refusal::Length);
     }
@@ -49,6 +46,16 @@ pub fn check_copy(n: u64, m: u64, from: &[u64], words: usize) -> Verdict
         return Verdict::Refused(Refusal::Pair(number));
     }
     Verdict::Done
+}
+
+// The same for tables of n unknowns: their sizes come first.
+pub fn check_copy(n: u64, m: u64, from: &[u64], words: usize) -> Verdict
+    ensures { λ r. ⌜ ((to : List ℕ) → length to ≡ words → r ≡ copyVerdict n m (now (from .entry)) to) ⌝ }
+{
+    if !sizes_fit(n, m) {
+        return Verdict::Refused(Refusal::Size);
+    }
+    check_entries(m, count(n as usize), from, words)
 }
 
 // A table by itself: its sizes, its length, its pairs. It is judged as if it were to be written, too.

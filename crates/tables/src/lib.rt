@@ -8,6 +8,7 @@ mod monomials;
 
 pub use checks::check;
 pub use checks::check_copy;
+pub use checks::check_entries;
 pub use monomials::count;
 pub use monomials::entry;
 pub use monomials::index;

@@ -1,0 +1,5 @@
+pub mod LoopLaw
+pub mod ExtraLaw
+pub mod FormLaw
+pub mod ReturnLaw
+pub mod RoundLaw

@@ -1,0 +1,6 @@
+pub mod OrderLaw
+pub mod NthLaw
+pub mod SumLaw
+pub mod WordsLaw
+pub mod Facts
+pub mod PackLaw

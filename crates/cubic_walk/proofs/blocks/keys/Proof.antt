@@ -1,0 +1,38 @@
+-- `cubic_walk::blocks::keys` meets its contract.
+use borrow.Author.Needs.{needs}
+use Rattle.cubic_walk.proofs.blocks.keys.Statement.{statement}
+use Rattle.cubic_walk.proofs.blocks.keys.Tie as tie
+use Rattle.cubic_walk.proofs.blocks.keys.Reads as reads
+use Rattle.cubic_walk.proofs.blocks.keys.Lts as lts
+
+-- src/blocks.rt:36:9
+key-requires : tie.Need-key-requires
+key-requires c κs = search needs
+
+-- src/blocks.rt:37:9
+key-requires-2 : tie.Need-key-requires-2
+key-requires-2 c κs = search needs
+
+-- src/blocks.rt:38:9
+key-requires-3 : tie.Need-key-requires-3
+key-requires-3 c κs = search needs
+
+-- src/blocks.rt:43:13
+sub-t5 : tie.Need-sub-t5
+sub-t5 c = search needs
+
+-- src/blocks.rt:44:13
+mul-t6 : tie.Need-mul-t6
+mul-t6 c = search needs
+
+-- src/blocks.rt:44:13
+sub-t7 : tie.Need-sub-t7
+sub-t7 c = search needs
+
+-- src/blocks.rt:32:1
+returns : tie.Need-returns
+returns c = rw (c .key3 .ensures .0, c .before .key2 .ensures .0, c .before .before .key .ensures .0)
+
+pub keys-spec : {M : Type 1} → statement M
+keys-spec =
+    tie.close (tie.spec key-requires key-requires-2 key-requires-3 sub-t5 mul-t6 sub-t7 returns)

@@ -1,0 +1,52 @@
+-- The search: the cubic walk up to its end, a full list or a spent budget.
+use mathlib.Core.Path.{_≡_}
+use mathlib.Core.Bool.{Bool, _||_}
+use mathlib.Core.List.{List}
+use Prim.Native.Nat.{ℕ, _*_, _^_, _≤_, _<_}
+use lib.Dec.{eqb}
+use lib.ListN.{length}
+use Rattle.walks.specs.Walk.{runOf}
+use Rattle.cubic_walk.specs.Step.{State, walkOf}
+use Rattle.cubic_tables.specs.Order.{cubicCount}
+use Rattle.cubic_walk.specs.Triples.{tripleAt}
+use Rattle.cubic_walk.specs.declared.Walker.{Walker}
+use Rattle.cubic_walk.specs.declared.Ran.{Ran}
+
+-- the state of a walker with its counts, over the list lent
+abbrev pub stateOf : Ran → List ℕ → State
+stateOf r l =
+    record {
+      place = r .walker .place;
+      value = r .walker .value;
+      slots = r .walker .slots;
+      seconds = r .walker .seconds;
+      additions = r .additions;
+      found = r .found;
+      list = l;
+    }
+
+-- a walker that begins: nothing added, nothing found
+abbrev pub fresh : Walker → List ℕ → State
+fresh w l =
+    record { place = w .place; value = w .value; slots = w .slots; seconds = w .seconds; additions = 0; found = 0; list = l }
+
+-- at the end of the walk, or with the list used up
+abbrev pub haltOf : ℕ → State → Bool
+haltOf e s = eqb (s .place) e || eqb (s .found) (length (s .list))
+
+-- at most so many places, over the table t of n unknowns, up to place e or a full list
+abbrev pub searchOf : List ℕ → ℕ → ℕ → ℕ → State → State
+searchOf t n e = runOf 3 (walkOf n (tripleAt t n)) (haltOf e)
+
+-- the sizes of a table and of the walk's end
+pub record Sized (t : List ℕ) (n e : ℕ) : Type 0 where
+  pub some : 0 < n
+  pub small : n ≤ 20
+  pub table : length t ≡ 2 * cubicCount n
+  pub end : e ≤ 3 ^ n
+
+-- the numbers of a walker with its counts are within their ends
+pub record Sane (e : ℕ) (r : Ran) (l : List ℕ) : Type 0 where
+  pub place : r .walker .place ≤ e
+  pub found : r .found ≤ length l
+  pub additions : r .additions ≤ 3 * r .walker .place

@@ -1,0 +1,68 @@
+// The cubic walk over all points in Gray order: second slots, slots, value.
+// Contracts cite specs/Step (what one place does), specs/Run (the search), specs/Triples (where a table's entries stand) and
+// specs/Parts (a block of 27 places).
+use trits::Vector;
+ghost use mathlib.Core.Path.{_≡_};
+ghost use Prim.Native.Nat.{_<_, _≤_};
+ghost use Rattle.cubic_walk.specs.Run.{fresh, stateOf, searchOf, Sized};
+
+mod blocks;
+mod moves;
+mod parts;
+mod steps;
+mod triples;
+
+// Where a walk stands: the next place to examine, the value at the place before it, the slot of each unknown, and the second slot
+// of each pair as two words, at the pair's number among 20 unknowns.
+pub struct Walker {
+    pub place: u64,
+    pub value: Vector,
+    pub slots: [Vector; 20],
+    pub seconds: [u64; 420],
+}
+
+// A walker after some places, the additions they took and the zeros found there.
+pub struct Ran {
+    pub walker: Walker,
+    pub additions: u64,
+    pub found: usize,
+}
+
+// How many places, at most budget, to walk before blocks may begin: up to the next multiple of 27, or all where the list has no room
+// for a block.
+fn lead(place: u64, budget: u64, room: usize) -> u64
+    ensures { λ r. ⌜ (r ≤ budget) × (0 < budget → 0 < r) ⌝ }
+{
+    if room < 27 {
+        return budget;
+    }
+    let ahead = 27 - place % 27;
+    if budget < ahead { budget } else { ahead }
+}
+
+// At most budget places, up to end or a full list. Every zero's point is listed, from the front of list; the rest of list stays.
+// Single places lead to a multiple of 27 and over the 27 places of a block whose first place is a power of three.
+pub fn run(table: &[u64], n: usize, end: u64, w: Walker, budget: u64, list: &mut [u64]) -> Ran
+    requires { ⌜ Sized (now table) n end ⌝ }
+    requires { ⌜ w .place ≤ end ⌝ }
+    ensures state { λ r. ⌜ stateOf r (now (list .exit)) ≡ searchOf (now (table .entry)) n end budget (fresh w (now (list .entry))) ⌝ }
+    ensures range { λ r. ⌜ (w .place ≤ r .walker .place) × (r .walker .place ≤ end) ⌝ }
+{
+    let len = list.len();
+    let mut r = Ran {
+        walker: w,
+        additions: 0,
+        found: 0,
+    };
+    let mut left = budget;
+    while steps::going(left, end, r.walker.place, len, r.found) {
+        let start = r.walker.place;
+        let first = lead(start, left, len - r.found);
+        let a = steps::steps(table, n, end, r, first, list);
+        let at = a.walker.place;
+        let more = left - (at - start);
+        r = blocks::blocks(table, n, end, a, more, list);
+        left = more - (r.walker.place - at);
+    }
+    r
+}
