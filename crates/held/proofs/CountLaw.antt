@@ -17,16 +17,12 @@ use Rattle.residues.proofs.ModLaw.{Cong, crefl, cof, csym, _⨾_, cadd}
 use Rattle.positions.specs.Positions.{positions}
 use Rattle.held.specs.Held.{begins, latestOf, held, entry, along}
 use Rattle.held.specs.Stands.{Rises}
+use Rattle.held.specs.Visits.{visits}
 use Rattle.held.proofs.HeldLaw.{either, begins-append, begins-snoc, held-other, held-last, held-step}
 use Rattle.held.proofs.PastLaw.{top, above}
 use Rattle.held.proofs.RiseLaw.{positions-rise}
 use Rattle.held.proofs.FlatLaw.{Fun, Flat, Ext}
 use Rattle.held.proofs.ConstantLaw.{held-entry}
-
--- how many of the places 1 to p begin with L
-unfoldable pub visits : ℕ → List ℕ → ℕ → ℕ
-visits q L zero = 0
-visits q L (suc p) = elim (begins L (positions q (suc p))) [ true ↦ suc (visits q L p) | false ↦ visits q L p ]
 
 pub visits-more : (q : ℕ) (L : List ℕ) (p : ℕ) → begins L (positions q (suc p)) ≡ true → visits q L (suc p) ≡ suc (visits q L p)
 unfolding visits

@@ -13,12 +13,13 @@ use borrow.Author.Tests.{lt-ltb, le-ltb}
 use Rattle.positions.specs.Positions.{positions}
 use Rattle.held.specs.Held.{begins, firstOf}
 use Rattle.held.specs.Stands.{Rises}
+use Rattle.held.specs.Visits.{visits}
 use Rattle.held.proofs.HeldLaw.{either, begins-self, begins-take}
 use Rattle.held.proofs.StemLaw.{Stem, root, grow, stemOf, placeAt, grow-self, grow-other, grow-at, one-run, stem-snoc}
 use Rattle.held.proofs.PastLaw.{top, Above, above, above-other, above-begins, first-place}
 use Rattle.held.proofs.RiseLaw.{rises-take, positions-rise}
 use Rattle.held.proofs.ExactLaw.{triple-same, triple-over}
-use Rattle.held.proofs.CountLaw.{visits, visits-more, visits-same}
+use Rattle.held.proofs.CountLaw.{visits-more, visits-same}
 
 -- how many of the numbers below x have a lowest digit that leaves room for r more
 unfoldable pub roomy : ℕ → ℕ → ℕ → ℕ
