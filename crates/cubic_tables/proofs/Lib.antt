@@ -5,3 +5,4 @@ pub mod WordsLaw
 pub mod Facts
 pub mod PackLaw
 pub mod HoldsLaw
+pub mod PairLaw
