@@ -196,8 +196,8 @@ module _ (q : ℕ) (two : 1 < q) (n : ℕ) where
     -- for two less
     pub held-counts-two : (L : List ℕ) → suc (suc (length L)) ≡ d → (p : ℕ) → p < q ^ n
         → Cong q (held q (along q F) L p)
-          (entry q (along q F) L + sum n (λ c. visits q (L ++ c ∷ []) p * entry q (along q F) (L ++ c ∷ [])
-          + sum n (λ e. gathered q (L ++ c ∷ []) (visits q ((L ++ c ∷ []) ++ e ∷ [])) p * entry q (along q F) ((L ++ c ∷ []) ++ e ∷ []))))
+        (entry q (along q F) L + sum n (λ c. visits q (L ++ c ∷ []) p * entry q (along q F) (L ++ c ∷ [])
+        + sum n (λ e. gathered q (L ++ c ∷ []) (visits q ((L ++ c ∷ []) ++ e ∷ [])) p * entry q (along q F) ((L ++ c ∷ []) ++ e ∷ []))))
     held-counts-two L k p l =
         held-gathers (along q F) L p l
         ⨾ cadd (crefl _) (sum-cong q n _ _ (λ c m.

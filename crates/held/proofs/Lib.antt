@@ -13,4 +13,5 @@ pub mod ValuesLaw
 pub mod ExactLaw
 pub mod CountLaw
 pub mod VisitLaw
+pub mod ThirdsLaw
 pub mod StandLaw

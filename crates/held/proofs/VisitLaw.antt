@@ -8,7 +8,7 @@ use native.Mathlib.Nat.{add-zero, mul-suc, pow-suc, mul-le-mul-left, one-le-pow,
 use native.Mathlib.Decide.{ℕ-discrete, decLt}
 use native.Mathlib.Omega.{arith}
 use lib.Dec.{ltb}
-use lib.ListN.{take}
+use lib.ListN.{length}
 use borrow.Author.Tests.{lt-ltb, le-ltb}
 use Rattle.positions.specs.Positions.{positions}
 use Rattle.held.specs.Held.{begins, firstOf}
@@ -131,6 +131,12 @@ module _ (q : ℕ) (two : 1 < q) where
   unfolding stemOf
   pair-run b c l = ap (λ (u : Stem). u .run) (grow-other q (grow q root b) c (λ e. let a = grow-at q root b in omega arith))
 
+  pub same-run : (b : ℕ) → top q (b ∷ b ∷ []) .run ≡ 2
+  unfolding stemOf
+  same-run b =
+      let s : Stem = grow q root b in
+      ap (λ (k : ℕ). grow q s k .run) (sym (grow-at q root b)) ∙ ap (λ (u : Stem). u .run) (grow-self q s) ∙ ap suc (one-run q b)
+
   pub far-run : (b c d : ℕ) → c < d → top q (b ∷ c ∷ d ∷ []) .run ≡ 1
   unfolding stemOf
   far-run b c d l = ap (λ (u : Stem). u .run) (grow-other q (grow q (grow q root b) c) d (λ e. let a = grow-at q (grow q root b) c in omega arith))
@@ -150,17 +156,13 @@ module _ (q : ℕ) (two : 1 < q) where
       let m : q ^ t * 2 ≤ q ^ t * q = mul-le-mul-left (q ^ t) two in
       omega (arith, pow-suc q t)
 
-  -- they never fall
+  -- they rise
+  pub begun-rises : (L : List ℕ) (t : ℕ) → begins L (positions q t) ≡ true → Rises 0 t L
+  begun-rises L t e = rw (begins-take L (positions q t) e) at (rises-take (length L) 0 t (positions q t) (positions-rise q two t t (below-power t)))
+
   pub visits-fall : (b c d p : ℕ) → d < c → visits q (b ∷ c ∷ d ∷ []) p ≡ 0
   unfolding visits
-  visits-fall b c d p l = gathered-none q (b ∷ c ∷ d ∷ []) (λ u. 1) (λ t e. falls t e) p
-    where
-      falls : (t : ℕ) → begins (b ∷ c ∷ d ∷ []) (positions q t) ≡ true → ⊥
-      falls t e =
-          let r : Rises 0 t (take 3 (positions q t)) = rises-take 3 0 t (positions q t) (positions-rise q two t t (below-power t)) in
-          let s : Rises 0 t (b ∷ c ∷ d ∷ []) = rw (begins-take (b ∷ c ∷ d ∷ []) (positions q t) e) at r in
-          let k : c ≤ d = s .2 .2 .0 in
-          omega arith
+  visits-fall b c d p l = gathered-none q (b ∷ c ∷ d ∷ []) (λ u. 1) (λ t e. let r = begun-rises (b ∷ c ∷ d ∷ []) t e in let k : c ≤ d = r .2 .2 .0 in omega arith) p
 
 -- ---- base 3
 three : 1 < 3
@@ -183,7 +185,7 @@ visits-thrice b p = gathered-none 3 (b ∷ b ∷ b ∷ []) (λ u. 1) (λ t e. le
         ap (λ (k : ℕ). grow 3 u k .run) (sym e) ∙ ap (λ (x : Stem). x .run) (grow-self 3 u)
         ∙ ap (λ (k : ℕ). suc (grow 3 s k .run)) (sym f) ∙ ap (λ (x : Stem). suc (x .run)) (grow-self 3 s) ∙ ap (λ (k : ℕ). suc (suc k)) (one-run 3 b)
 
-roomy-one : (x : ℕ) → roomy 3 1 (λ y. 1) x ≡ x - x / 3
+pub roomy-one : (x : ℕ) → roomy 3 1 (λ y. 1) x ≡ x - x / 3
 unfolding roomy
 roomy-one zero = refl
 roomy-one (suc x) =
@@ -191,7 +193,7 @@ roomy-one (suc x) =
     (λ h. roomy-more 3 1 (λ y. 1) x h ∙ omega (arith, roomy-one x))
     (λ h. roomy-same 3 1 (λ y. 1) x (omega arith) ∙ omega (arith, roomy-one x))
 
-roomy-two : (x : ℕ) → roomy 3 2 (λ y. 1) x ≡ (x + 2) / 3
+pub roomy-two : (x : ℕ) → roomy 3 2 (λ y. 1) x ≡ (x + 2) / 3
 unfolding roomy
 roomy-two zero = refl
 roomy-two (suc x) =

@@ -45,15 +45,7 @@ fn seed(table: &[u64], n: usize, b: usize, c: usize, base: usize, y: u64) -> Vec
 }
 
 // Second slot b, c after a place; rest is the place less 3 to the b and 3 to the c, power is 3 to the c, base + d the number of b, c, d.
-fn second(
-    table: &[u64],
-    n: usize,
-    b: usize,
-    c: usize,
-    base: usize,
-    rest: u64,
-    power: u64,
-) -> Vector
+fn second(table: &[u64], n: usize, b: usize, c: usize, base: usize, rest: u64, power: u64) -> Vector
     requires { ⌜ (n ≤ mostUnknowns) × (b ≤ c) × (c < n) × (base ≡ keyOf n b + (pairOf n c c - c)) × (length (now table) ≡ 2 * cubicCount n) × (rest < 2 ^ 63) × (power ≡ 3 ^ c) ⌝ }
     ensures { λ r. ⌜ ((m q : ℕ) → CubicTable n m (now (table .entry)) → q < 3 ^ n → rest ≡ q - (3 ^ b + 3 ^ c)
         → Holds m (λ e. held 3 (along 3 (cubicOf (backCubic n (cubicAt n (now (table .entry)) e)) n)) (b ∷ c ∷ []) q) r) ⌝ }

@@ -103,10 +103,13 @@ loop-again c =
     let a = c .before .before .before .before .before .before .before .before .before .args in
     let p = c .before .before .before .before .before .before .before .before .before .pre in
     let l = c .before .before .before .before .before .loop in
-    let left : c .before .before .less2 .result ≡ a .q - (3 ^ a .b + 3 ^ l .c) = omega arith in
-    (omega arith, omega arith, ap (λ (x : ℕ). x * 3) (l .inv .2) ∙ power-next (l .c),
-    λ f. put (a .n) (a .table .now) (a .q) (a .b) (l .c) (c .pair2 .result) (l .out) (c .before .second .result) (c .pair2 .ensures .0)
-    (filled-next (a .n) (a .table .now) (a .q) (a .b) (l .c) (l .out) (c .before .second .result) (l .inv .0) (omega arith) (p .0) (λ m w. c .before .second .ensures m (a .q) w (p .2) left) (l .inv .3 f)))
+    let left : c .before .before .less2 .result ≡ a .q - (3 ^ a .b + 3 ^ l .c) = omega arith in (
+      omega arith,
+      omega arith,
+      ap (λ (x : ℕ). x * 3) (l .inv .2) ∙ power-next (l .c),
+      λ f. put (a .n) (a .table .now) (a .q) (a .b) (l .c) (c .pair2 .result) (l .out) (c .before .second .result) (c .pair2 .ensures .0)
+          (filled-next (a .n) (a .table .now) (a .q) (a .b) (l .c) (l .out) (c .before .second .result) (l .inv .0) (omega arith) (p .0) (λ m w. c .before .second .ensures m (a .q) w (p .2) left) (l .inv .3 f)),
+    )
 
 returns : tie.Need-returns Inv-loop μ-loop
 returns c =

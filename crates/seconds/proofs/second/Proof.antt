@@ -84,10 +84,13 @@ loop-again c =
     let l = c .before .before .before .before .loop in
     let k = base-at (a .n) (a .b) (a .c) (l .d) (a .base) (p .1) (omega arith) (omega arith) (omega arith) (p .3) in
     let d : l .d < a .n = omega arith in
-    let low : a .c < l .d = omega arith in
-    (omega arith, omega arith, ap (λ (x : ℕ). x / 3) (l .inv .2) ∙ part-next (a .rest) (l .d),
-    λ m q w r. counted-more (a .n) m (a .table .now) w (a .b) (a .c) q (p .1) (p .2) (l .d) (a .base + l .d) (l .y) (l .y / 3) low d k (c .before .before .vector .ensures)
-    (l .inv .2 ∙ ap (λ (x : ℕ). x / 3 ^ l .d) r) refl (c .before .times .ensures) (c .add .ensures) (l .inv .3 m q w r))
+    let low : a .c < l .d = omega arith in (
+      omega arith,
+      omega arith,
+      ap (λ (x : ℕ). x / 3) (l .inv .2) ∙ part-next (a .rest) (l .d),
+      λ m q w r. counted-more (a .n) m (a .table .now) w (a .b) (a .c) q (p .1) (p .2) (l .d) (a .base + l .d) (l .y) (l .y / 3) low d k (c .before .before .vector .ensures)
+          (l .inv .2 ∙ ap (λ (x : ℕ). x / 3 ^ l .d) r) refl (c .before .times .ensures) (c .add .ensures) (l .inv .3 m q w r),
+    )
 
 returns : tie.Need-returns Inv-loop μ-loop
 returns c =
