@@ -16,8 +16,11 @@ use Rattle.held.specs.Held.{along, held}
 use Rattle.polynomials.specs.Poly.{changeBy}
 use Rattle.tables.specs.Monomials.{rowStart}
 use Rattle.tables.specs.Words.{entry, tabled}
-use Rattle.tables.proofs.MonomialLaw.{row-peel, find}
-use Rattle.tables.proofs.WordLaw.{length-tabled, entry-tabled, is-tabled}
+use Rattle.tables.proofs.MonomialLaw.{row-peel}
+use Rattle.tables.proofs.WordLaw.{length-tabled, entry-tabled}
+use Rattle.tables.proofs.WriteLaw.{entries-ext}
+use Rattle.cubic_tables.specs.Order.{seatOf}
+use Rattle.cubic_tables.proofs.PairLaw.{pair-row, seat-of}
 use Rattle.given.specs.Given.{Given, quadratic, cubic, valuesOf}
 use Rattle.given.specs.Slots.{slotAt, slotsAt, secondAt, secondsAt}
 
@@ -127,8 +130,9 @@ module _ (g : Given) (q : ℕ) where
       next : (b a : ℕ) → suc b + a ≡ b + suc a
       next b a = omega arith
 
-  pub seconds-at : (b c : ℕ) → b ≤ c → c < 20 → entry (secondsAt g q 0 20) (rowStart 20 b + (c - b)) ≡ secondAt g q b c
-  seconds-at b c h l = seconds-from 0 20 b (c - b) (omega arith) ∙ ap₂ (secondAt g q) (plain b) (end b c h)
+  pub seconds-at : (b c : ℕ) → b ≤ c → c < 20 → entry (secondsAt g q 0 20) (seatOf b c) ≡ secondAt g q b c
+  seconds-at b c h l =
+      ap (entry (secondsAt g q 0 20)) (pair-row 20 b c h l) ∙ seconds-from 0 20 b (c - b) (omega arith) ∙ ap₂ (secondAt g q) (plain b) (end b c h)
     where
       plain : (b : ℕ) → 0 + b ≡ b
       plain b = omega arith
@@ -137,25 +141,21 @@ module _ (g : Given) (q : ℕ) where
       end b c h = omega arith
 
   -- words that are right pair by pair
-  pub seconds-are : (w : List ℕ) → length w ≡ 420 → ((b c : ℕ) → b ≤ c → c < 20 → entry w (rowStart 20 b + (c - b)) ≡ secondAt g q b c) → w ≡ secondsAt g q 0 20
-  unfolding rowStart
+  pub seconds-are : (w : List ℕ) → length w ≡ 420 → ((b c : ℕ) → b ≤ c → c < 20 → entry w (seatOf b c) ≡ secondAt g q b c) → w ≡ secondsAt g q 0 20
   seconds-are w long h =
-      let s = secondsAt g q 0 20 in
-      is-tabled 210 (entry s) w long each ∙ sym (is-tabled 210 (entry s) s seconds-long (λ i l. refl))
-    where
-      each : (i : ℕ) → i < 210 → entry w i ≡ entry (secondsAt g q 0 20) i
-      each i l =
-          let p = find 20 i l in
-          let b = p .row in
-          let e : i ≡ rowStart 20 b + (b + p .place - b) = omega (arith, p .number) in
-          ap (entry w) e ∙ h b (b + p .place) (omega arith) (p .within) ∙ sym (seconds-at b (b + p .place) (omega arith) (p .within)) ∙ sym (ap (entry (secondsAt g q 0 20)) e)
+      entries-ext 210 w (secondsAt g q 0 20) long seconds-long
+      (λ k l.
+      let s = seat-of k l in
+      let e : entry w (seatOf (s .first) (s .second)) ≡ entry (secondsAt g q 0 20) (seatOf (s .first) (s .second))
+      = h (s .first) (s .second) (s .order) (s .below) ∙ sym (seconds-at (s .first) (s .second) (s .order) (s .below)) in
+      rw (s .is) at e)
 
 -- none has a word in degree 2
 pub seconds-two : (n m : ℕ) (t : List ℕ) (q : ℕ) → _≡_ {A = List ℕ} (replicate 420 0) (secondsAt (quadratic n m t) q 0 20)
 unfolding entry
 seconds-two n m t q =
     seconds-are (quadratic n m t) q (replicate 420 0) refl
-    (λ b c h l. (λ i. record { high = zeros 420 (2 * (rowStart 20 b + (c - b))) i; low = zeros 420 (2 * (rowStart 20 b + (c - b)) + 1) i }) ∙ sym (second-two n m t q b c))
+    (λ b c h l. (λ i. record { high = zeros 420 (2 * seatOf b c) i; low = zeros 420 (2 * seatOf b c + 1) i }) ∙ sym (second-two n m t q b c))
   where
     zeros : (k i : ℕ) → _≡_ {A = ℕ} (getD (replicate k 0) i 0) 0
     zeros zero i = refl

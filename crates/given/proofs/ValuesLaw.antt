@@ -1,5 +1,5 @@
 -- The system behind a table as functions of points: what its values depend on, and their degree.
-use mathlib.Core.Path.{_≡_, refl, ap, ap₂}
+use mathlib.Core.Path.{_≡_, refl}
 use mathlib.Core.List.{List}
 use mathlib.Core.Logic.{by-cases}
 use Prim.Native.Nat.{ℕ, suc, _+_, _-_, _*_, _≤_, _<_}
@@ -7,45 +7,23 @@ use native.Mathlib.Decide.{ℕ-discrete}
 use native.Mathlib.Omega.{arith}
 use Rattle.residues.specs.Sums.{sum}
 use Rattle.residues.proofs.ModLaw.{Cong, crefl, cof, csym, _⨾_, cadd, cmul}
-use Rattle.residues.proofs.SumLaw.{sum-cong, sum-ext}
+use Rattle.residues.proofs.SumLaw.{sum-cong}
 use Rattle.held.proofs.FlatLaw.{Flat, Ext}
 use Rattle.polynomials.specs.Poly.{Poly, valueOf}
+use Rattle.polynomials.proofs.PolyLaw.{value-ext}
 use Rattle.polynomials.proofs.TermsLaw.{flat-value, ext-value}
 use Rattle.cubics.specs.Cubic.{Cubic, lowOf, cubesOf, cubicOf}
-use Rattle.cubics.proofs.CubicLaw.{flat-cubic, ext-cubic}
+use Rattle.cubics.proofs.CubicLaw.{flat-cubic, ext-cubic, cubic-below}
 use Rattle.tables.proofs.AgreeLaw.{Agree}
 use Rattle.cubic_tables.proofs.WordsLaw.{Alike}
 use Rattle.given.specs.declared.Degree.{Degree}
 use Rattle.given.specs.declared.Degree.the-variants.{Two, Three}
 use Rattle.given.specs.Given.{Given, depthOf, quadratic, cubic, behind, cubicBehind, valuesIn, valuesOf}
 
--- the value of a polynomial looks at the unknowns below n alone
-value-at : (f : Poly) (n : ℕ) (x y : ℕ → ℕ) → ((k : ℕ) → k < n → x k ≡ y k) → valueOf f n x ≡ valueOf f n y
-unfolding valueOf
-value-at f n x y h =
-    ap₂ (λ (u v : ℕ). u + v)
-    (ap (λ (u : ℕ). f .const + u) (sum-ext n (λ i. f .lin i * x i) (λ i. f .lin i * y i) (λ i l. ap (λ (u : ℕ). f .lin i * u) (h i l))))
-    (sum-ext n (λ i. sum (n - i) (λ d. f .quad i (i + d) * (x i * x (i + d)))) (λ i. sum (n - i) (λ d. f .quad i (i + d) * (y i * y (i + d))))
-    (λ i l. sum-ext (n - i) (λ d. f .quad i (i + d) * (x i * x (i + d))) (λ d. f .quad i (i + d) * (y i * y (i + d)))
-    (λ d m. ap₂ (λ (u v : ℕ). f .quad i (i + d) * (u * v)) (h i l) (h (i + d) (omega arith)))))
-
-cubes-at : (f : Cubic) (n : ℕ) (x y : ℕ → ℕ) → ((k : ℕ) → k < n → x k ≡ y k) → cubesOf f n x ≡ cubesOf f n y
-unfolding cubesOf
-cubes-at f n x y h =
-    sum-ext n (λ i. sum (n - i) (λ d. sum (n - (i + d)) (λ e. over i d e x))) (λ i. sum (n - i) (λ d. sum (n - (i + d)) (λ e. over i d e y)))
-    (λ i l. sum-ext (n - i) (λ d. sum (n - (i + d)) (λ e. over i d e x)) (λ d. sum (n - (i + d)) (λ e. over i d e y))
-    (λ d m. sum-ext (n - (i + d)) (λ e. over i d e x) (λ e. over i d e y)
-    (λ e k. ap₂ (λ (u v : ℕ). f .cube i (i + d) (i + d + e) * (u * v)) (h i l)
-    (ap₂ (λ (u v : ℕ). u * v) (h (i + d) (omega arith)) (h (i + d + e) (omega arith))))))
-  where
-    over : ℕ → ℕ → ℕ → (ℕ → ℕ) → ℕ
-    over i d e z = f .cube i (i + d) (i + d + e) * (z i * (z (i + d) * z (i + d + e)))
-
--- so does each equation
+-- each equation looks at the unknowns below n alone
 values-in : (d : Degree) (n : ℕ) (t : List ℕ) (e : ℕ) (x y : ℕ → ℕ) → ((k : ℕ) → k < n → x k ≡ y k) → valuesIn d n t e x ≡ valuesIn d n t e y
-unfolding cubicOf
-values-in Two n t e x y h = value-at (behind n t e) n x y h
-values-in Three n t e x y h = ap₂ (λ (u v : ℕ). u + v) (value-at (lowOf (cubicBehind n t e)) n x y h) (cubes-at (cubicBehind n t e) n x y h)
+values-in Two n t e x y h = value-ext (behind n t e) n x y h
+values-in Three n t e x y h = cubic-below (cubicBehind n t e) n x y h
 
 pub values-at : (g : Given) (e : ℕ) (x y : ℕ → ℕ) → ((k : ℕ) → k < g .n → x k ≡ y k) → valuesOf g e x ≡ valuesOf g e y
 unfolding valuesOf
