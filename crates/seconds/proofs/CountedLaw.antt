@@ -98,7 +98,7 @@ module _ (n m : ℕ) (t : List ℕ) (table : CubicTable n m t) (b c q : ℕ) (h 
   counted-held : (f : Cubic) → q < 3 ^ n → Cong 3 (countedTo f b c q n) (held.held 3 (held.along 3 (cubicOf (backCubic n f) n)) (b ∷ c ∷ []) q)
   unfolding countedTo
   counted-held f small =
-      csym (held-counts 3 (omega arith) (cubicOf (backCubic n f) n) (ext-cubic 3 (omega arith) (backCubic n f) n) 3 (flat-cubic 3 (omega arith) (backCubic n f) n) n (b ∷ c ∷ []) refl q small
+      csym (held-counts 3 (omega arith) n (cubicOf (backCubic n f) n) (ext-cubic 3 (omega arith) (backCubic n f) n) 3 (flat-cubic 3 (omega arith) (backCubic n f) n) (b ∷ c ∷ []) refl q small
       ⨾ cadd (table-quad n f b c h l) (sum-cong 3 n _ _ (λ d j. one d j)))
     where
       one : (d : ℕ) → d < n → Cong 3 (visits 3 (b ∷ c ∷ d ∷ []) q * held.entry 3 (held.along 3 (cubicOf (backCubic n f) n)) (b ∷ c ∷ d ∷ [])) (visits 3 (b ∷ c ∷ d ∷ []) q * f .cube b c d)

@@ -24,7 +24,7 @@ ghost use Rattle.seconds.specs.Seconds.{Seconds};
 ghost use Rattle.seconds.specs.Parts.{countedTo, Filled};
 
 // q less a, or 0 where a is more.
-fn less(q: u64, a: u64) -> u64
+pub fn less(q: u64, a: u64) -> u64
     ensures { λ r. ⌜ r ≡ q - a ⌝ }
 {
     if q < a { 0 } else { q - a }
