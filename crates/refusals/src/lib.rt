@@ -15,6 +15,11 @@ pub const MOST_EQUATIONS: u64 = 64;
 // The words of a table of 20 unknowns.
 pub const MOST_WORDS: usize = 462;
 
+// The words of the second slots of 20 unknowns, and of a table of degree 3.
+pub const SECOND_WORDS: usize = 420;
+
+pub const MOST_CUBIC_WORDS: usize = 3502;
+
 // A record's words, and its bytes for C.
 pub const RECORD_WORDS: usize = 45;
 

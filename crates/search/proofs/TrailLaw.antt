@@ -3,7 +3,7 @@ use mathlib.Core.Path.{_≡_, refl}
 use Prim.Native.Nat.{ℕ, _^_, _≤_, _<_}
 use native.Mathlib.Omega.{arith}
 use Rattle.gray.proofs.MapLaw.{point-lt}
-use Rattle.given.specs.Given.{Given}
+use Rattle.given.specs.Given.{Given, depthOf}
 use Rattle.opening.specs.Opened.{openedAt}
 use Rattle.opening.proofs.PlaceLaw.{two}
 use Rattle.search.specs.Search.{trailBehind}
@@ -17,7 +17,7 @@ module _ (g : Given) where
   unfolding trailBehind
   entry-lt p = point-lt 3 two (g .n) p
 
-  pub cost-le : (p : ℕ) → trailBehind g .cost p ≤ g .degree
+  pub cost-le : (p : ℕ) → trailBehind g .cost p ≤ depthOf (g .degree)
   unfolding trailBehind
   cost-le p = omega arith
 
