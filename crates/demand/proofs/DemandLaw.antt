@@ -20,6 +20,7 @@ use Rattle.given.proofs.ValuesLaw.{values-at}
 use Rattle.opening.specs.declared.Record.{Record}
 use Rattle.opening.specs.Opened.{openedAt}
 use Rattle.search.specs.Search.{trailBehind}
+use Rattle.search.proofs.TrailLaw.{end-is}
 use Rattle.demand.specs.Session.{callOf}
 use Rattle.demand.specs.Demand.{CommonZero, allAdditions, fromStart, WholeWalk}
 use Rattle.opening.proofs.PlaceLaw.{two}
@@ -32,11 +33,7 @@ module _ (g : Given) where
   abbrev T : Trail
   T = trailBehind g
 
-  -- the walk's ends, entries and costs
-  pub end-is : T .end ≡ 3 ^ g .n
-  unfolding trailBehind
-  end-is = refl
-
+  -- the walk's entries and costs
   pub distinct : Distinct T
   unfolding trailBehind
   distinct a b ha hb e = point-same 3 two (g .n) a b ha hb e
@@ -91,7 +88,7 @@ module _ (g : Given) where
     pub ended-is : SaysEnded (given .told) ↔ (given .last .place .0 ≡ 3 ^ g .n)
     ended-is =
         let i = ended-iff T (openedAt g) (callOf g) (serves g ok) 0 qs some-places in
-        (λ e. place-is ∙ sym (zero-add _) ∙ i .0 e ∙ end-is, λ e. i .1 (zero-add _ ∙ sym place-is ∙ e ∙ sym end-is))
+        (λ e. place-is ∙ sym (zero-add _) ∙ i .0 e ∙ end-is g, λ e. i .1 (zero-add _ ∙ sym place-is ∙ e ∙ sym (end-is g)))
 
     -- demand 3
     pub whole-walk : g .degree ≡ 2 → SaysEnded (given .told) → WholeWalk g qs
@@ -99,18 +96,18 @@ module _ (g : Given) where
         let d : WholeRun T (openedAt g) (callOf g) qs = whole-run T (openedAt g) (callOf g) (serves g ok) qs some-places e in
         record {
           each = d .each;
-          last = d .last ∙ ap (openedAt g) end-is;
+          last = d .last ∙ ap (openedAt g) (end-is g);
           all = λ x. trans-iff (d .all x) (zero-iff x);
           once = run-once T (openedAt g) (callOf g) qs d distinct;
           order = d .order ∙ in-order;
-          points = d .points ∙ end-is;
-          additions = d .additions ∙ ap (costIn T 0) end-is ∙ cost-all two;
+          points = d .points ∙ end-is g;
+          additions = d .additions ∙ ap (costIn T 0) (end-is g) ∙ cost-all two;
         }
 
     -- a run with as many requests that ask for something as there are points has ended
     pub always-ends : 3 ^ g .n ≤ askedIn qs → SaysEnded (given .told)
     always-ends l =
         let s = serves g ok in
-        let k : T .end - 0 ≤ askedIn qs = omega (arith, end-is) in
+        let k : T .end - 0 ≤ askedIn qs = omega (arith, end-is g) in
         let c = calls-enough T (openedAt g) (callOf g) s 0 qs (willing g ok) (omega arith) k in
         ended-iff T (openedAt g) (callOf g) s 0 qs some-places .1 (calls-end T (openedAt g) (callOf g) s 0 qs (omega arith) c)

@@ -40,8 +40,8 @@ use Rattle.demand.proofs.DemandLaw.{trans-iff, end-is, distinct, cost-all, zero
 use Rattle.lists.specs.Listed.{foundIn, outcomeIn, listIn}
 use Rattle.wire.specs.Wire.{recordIn, recordWords}
 use Rattle.wire.proofs.SmallLaw.{record-bytes, record-back}
-use Rattle.vayudrit.specs.Call.{callVerdict, answerBytesAfter, doneOf}
-use Rattle.vayudrit.proofs.VerdictLaw.{right, shapes-done}
+use Rattle.search_calls.specs.Call.{callVerdict, answerBytesAfter, doneOf}
+use Rattle.search_calls.proofs.VerdictLaw.{right, shapes-done}
 use Rattle.harness.specs.Harness.{reportSaid, toldBy, replyBy, areWords, lentIf, bytesCall, recordAt, Lent, answerAfter, OneAnswer, EachAnswer, nightOf, WholeNight}
 use Rattle.harness.proofs.BytesLaw.{are-below, words-back, front-back, zeros-below, values-back, answer-back}
 

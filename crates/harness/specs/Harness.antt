@@ -25,7 +25,7 @@ use Rattle.opening.specs.Opened.{openedAt}
 use Rattle.search.specs.Search.{trailOf}
 use Rattle.demand.specs.Demand.{CommonZero}
 use Rattle.wire.specs.Wire.{recordWords}
-use Rattle.vayudrit.specs.Call.{callVerdict, recordBytesAfter, listBytesAfter, answerBytesAfter}
+use Rattle.search_calls.specs.Call.{callVerdict, recordBytesAfter, listBytesAfter, answerBytesAfter}
 
 -- the report that the five words of an answer say
 abbrev pub stopSaid : ℕ → ℕ → Stop

@@ -4,27 +4,26 @@ use mathlib.Core.Path.{_≡_, refl, sym, ap, ap₂, subst, _∙_}
 use mathlib.Core.Logic.{⊎-elim, inl, inr, _⊎_}
 use mathlib.Core.List.{List, [], _++_}
 use Prim.Native.Nat.{ℕ, _+_, _-_, _*_, _/_, _^_, _≤_, _<_, min}
-use native.Mathlib.Nat.{pow-le-pow-right}
+use native.Mathlib.Nat.{mul-le-mul-left}
 use native.Mathlib.Omega.{arith}
 use lib.ListN.{length, take, drop, length-append, length-drop}
 use lib.Seq.{length-take-le, take-append-le}
-use Rattle.refusals.specs.declared.Verdict.the-variants as verdict
 use Rattle.walks.specs.declared.Report.{Report}
 use Rattle.walks.specs.declared.Stop.{Stop}
-use Rattle.walks.specs.Calls.{Trail, zerosIn, costIn, pointsIn, reportOf, reportIn, listAfter}
+use Rattle.walks.specs.Calls.{Trail, zerosIn, costIn, pointsIn, stopFrom, reportOf, reportIn, listAfter}
 use Rattle.walks.proofs.CallLaw.{zeros-add, cost-add, cost-most, points-none, points-le, points-one, points-end, zeros-room, after-length, after-front}
 use Rattle.codec.specs.Codec.{bytesFrom, pasted}
 use Rattle.codec.proofs.CodecLaw.{paste-paste, paste-none, from-append, from-nil, length-from, length-pasted}
-use Rattle.tables.specs.Answers.{checkedOf}
+use Rattle.given.specs.Given.{Given, Checked}
+use Rattle.given.proofs.TableLaw.{power-small}
 use Rattle.opening.specs.declared.Record.{Record}
 use Rattle.search.specs.declared.Answer.the-variants.{Ran}
 use Rattle.search.specs.declared.Outcome.{Outcome}
 use Rattle.opening.specs.Opened.{openedAt}
-use Rattle.search.specs.Search.{trailOf, fits, ranOf}
-use Rattle.search.specs.Parts.{stopFrom}
-use Rattle.opening.proofs.OpenLaw.{within}
+use Rattle.search.specs.Search.{trailBehind, fits, ranOf}
 use Rattle.search.proofs.VerdictLaw.{fits-opened}
 use Rattle.search.proofs.RanLaw as ran
+use Rattle.search.proofs.TrailLaw.{end-is, cost-le, place-opened}
 use Rattle.lists.specs.Listed.{foundIn}
 use Rattle.lists.specs.Pieces.{didOf}
 use Rattle.lists.proofs.CutLaw.{zeros-none, found-add, Cut, cut-none, cut-more, cut-over, report-over}
@@ -33,21 +32,9 @@ cost-none : (T : Trail) (p : ℕ) → costIn T p 0 ≡ 0
 unfolding costIn
 cost-none T p = refl
 
-place-opened : (n m : ℕ) (t : List ℕ) (q : ℕ) → openedAt n m t q .place .0 ≡ q
-unfolding openedAt
-place-opened n m t q = refl
-
-end-is : (n m : ℕ) (t : List ℕ) → trailOf n m t .end ≡ 3 ^ n
-unfolding trailOf
-end-is n m t = refl
-
-cost-two : (n m : ℕ) (t : List ℕ) (p : ℕ) → trailOf n m t .cost p ≤ 2
-unfolding trailOf
-cost-two n m t p = omega arith
-
-module _ (n m : ℕ) (t : List ℕ) (r : Record) (budget : ℕ) (l₀ : List ℕ) where
+module _ (g : Given) (r : Record) (budget : ℕ) (l₀ : List ℕ) where
   abbrev T : Trail
-  T = trailOf n m t
+  T = trailBehind g
 
   abbrev p : ℕ
   p = r .place .0
@@ -61,11 +48,11 @@ module _ (n m : ℕ) (t : List ℕ) (r : Record) (budget : ℕ) (l₀ : List ℕ
     pub spare : left ≡ budget - k
     pub used : at ≡ length (zerosIn T p k)
     pub sum : additions ≡ costIn T p k
-    pub near : p + k ≤ 3 ^ n
-    pub here : s ≡ openedAt n m t (p + k)
+    pub near : p + k ≤ 3 ^ g .n
+    pub here : s ≡ openedAt g (p + k)
     pub list : l ≡ pasted l₀ 0 (bytesFrom (zerosIn T p k))
 
-  pub starts : fits n m t r ≡ true → Held 0 budget 0 0 l₀ r
+  pub starts : fits g r ≡ true → Held 0 budget 0 0 l₀ r
   starts h =
       let z : p + 0 ≡ p = omega arith in
       record {
@@ -73,8 +60,8 @@ module _ (n m : ℕ) (t : List ℕ) (r : Record) (budget : ℕ) (l₀ : List ℕ
         spare = omega arith;
         used = sym (ap length (zeros-none T p));
         sum = sym (cost-none T p);
-        near = omega (arith, ran.fits-place n m t r h);
-        here = ran.fits-opened n m t r h ∙ ap (openedAt n m t) (sym z);
+        near = omega (arith, ran.fits-place g r h);
+        here = ran.fits-opened g r h ∙ ap (openedAt g) (sym z);
         list = paste-none l₀ 0 ∙ ap (pasted l₀ 0) (sym (ap bytesFrom (zeros-none T p) ∙ from-nil));
       }
 
@@ -89,34 +76,34 @@ module _ (n m : ℕ) (t : List ℕ) (r : Record) (budget : ℕ) (l₀ : List ℕ
     at-within = omega (arith, h .used, h .cut .fits)
 
     pub place-is : s .place .0 ≡ p + k
-    place-is = ap (λ (x : Record). x .place .0) (h .here) ∙ place-opened n m t (p + k)
+    place-is = ap (λ (x : Record). x .place .0) (h .here) ∙ place-opened g (p + k)
 
-    pub own : fits n m t s ≡ true
-    own = ap (fits n m t) (h .here) ∙ fits-opened n m t (p + k) (h .near)
+    pub own : fits g s ≡ true
+    own = ap (fits g) (h .here) ∙ fits-opened g (p + k) (h .near)
 
     -- ---- nothing is left to do: this is the whole call
-    pub closed : (st : Stop) → st ≡ stopFrom (s .place .0) (3 ^ n) at room → (s .place .0 ≡ 3 ^ n) ⊎ (left ≡ 0) ⊎ (room - at ≡ 0)
-        → (_≡_ {A = Outcome} (record { answer = Ran (record { stop = st; points = k; additions = additions; found = at }); «record» = s }) (ranOf n m t p budget room))
-        × (l ≡ pasted l₀ 0 (bytesFrom (foundIn n m t p budget room)))
-    unfolding trailOf
+    pub closed : (st : Stop) → st ≡ stopFrom (s .place .0) (3 ^ g .n) at room → (s .place .0 ≡ 3 ^ g .n) ⊎ (left ≡ 0) ⊎ (room - at ≡ 0)
+        → (_≡_ {A = Outcome} (record { answer = Ran (record { stop = st; points = k; additions = additions; found = at }); «record» = s }) (ranOf g p budget room))
+        × (l ≡ pasted l₀ 0 (bytesFrom (foundIn g p budget room)))
+    unfolding trailBehind
     closed st es o =
         let v : (p + k ≡ T .end) ⊎ (budget - k ≡ 0) ⊎ (room - length (zerosIn T p k) ≡ 0) =
         ⊎-elim (λ e. inl (sym place-is ∙ e)) (⊎-elim (λ e. inr (inl (sym (h .spare) ∙ e))) (λ e. inr (inr (ap (λ (x : ℕ). room - x) (sym (h .used)) ∙ e)))) o
         in
         let e = cut-over T budget room p k (h .cut) v in
         let w = report-over T budget room p k (h .cut) v in
-        let i : st ≡ reportIn T room p k .stop = es ∙ ap₂ (λ (x y : ℕ). stopFrom x (3 ^ n) y room) place-is (h .used) in
+        let i : st ≡ reportIn T room p k .stop = es ∙ ap₂ (λ (x y : ℕ). stopFrom x (3 ^ g .n) y room) place-is (h .used) in
         let a : _≡_ {A = Report} (record { stop = st; points = k; additions = additions; found = at }) (reportIn T room p k) =
         λ j. record { stop = i j; points = k; additions = h .sum j; found = h .used j }
         in (
-          ap₂ (λ (x : Report) (y : Record). record { answer = Ran x; «record» = y }) (a ∙ w) (h .here ∙ ap (λ (x : ℕ). openedAt n m t (p + x)) (sym e)),
+          ap₂ (λ (x : Report) (y : Record). record { answer = Ran x; «record» = y }) (a ∙ w) (h .here ∙ ap (λ (x : ℕ). openedAt g (p + x)) (sym e)),
           h .list ∙ ap (λ (x : ℕ). pasted l₀ 0 (bytesFrom (zerosIn T p x))) (sym e),
         )
 
     -- ---- a piece more, with so many words between
     module _ (words : ℕ) (o : Outcome) (l′ : List ℕ) (w : Report)
-        (eo : o ≡ ranOf n m t (s .place .0) left (min words (length l / 8 - at)))
-        (el : l′ ≡ pasted l (8 * at) (bytesFrom (foundIn n m t (s .place .0) left (min words (length l / 8 - at)))))
+        (eo : o ≡ ranOf g (s .place .0) left (min words (length l / 8 - at)))
+        (el : l′ ≡ pasted l (8 * at) (bytesFrom (foundIn g (s .place .0) left (min words (length l / 8 - at)))))
         (ew : w ≡ didOf (o .answer)) where
       abbrev d : ℕ
       d = min words (room - at)
@@ -130,13 +117,13 @@ module _ (n m : ℕ) (t : List ℕ) (r : Record) (budget : ℕ) (l₀ : List ℕ
       same : min words (length l / 8 - at) ≡ d
       same = ap (λ (x : ℕ). min words (x / 8 - at)) long
 
-      outcome : o ≡ ranOf n m t q (budget - k) d
-      outcome = eo ∙ ap₂ (λ (x y : ℕ). ranOf n m t x y (min words (length l / 8 - at))) place-is (h .spare) ∙ ap (ranOf n m t q (budget - k)) same
+      outcome : o ≡ ranOf g q (budget - k) d
+      outcome = eo ∙ ap₂ (λ (x y : ℕ). ranOf g x y (min words (length l / 8 - at))) place-is (h .spare) ∙ ap (ranOf g q (budget - k)) same
 
       found : l′ ≡ pasted l (8 * at) (bytesFrom (zerosIn T q j))
       found =
-          el ∙ ap₂ (λ (x y : ℕ). pasted l (8 * at) (bytesFrom (foundIn n m t x y (min words (length l / 8 - at))))) place-is (h .spare)
-          ∙ ap (λ (x : ℕ). pasted l (8 * at) (bytesFrom (foundIn n m t q (budget - k) x))) same
+          el ∙ ap₂ (λ (x y : ℕ). pasted l (8 * at) (bytesFrom (foundIn g x y (min words (length l / 8 - at))))) place-is (h .spare)
+          ∙ ap (λ (x : ℕ). pasted l (8 * at) (bytesFrom (foundIn g q (budget - k) x))) same
 
       report : w ≡ reportOf T (budget - k) d q
       report = ew ∙ ap (λ (x : Outcome). didOf (x .answer)) outcome
@@ -159,10 +146,10 @@ module _ (n m : ℕ) (t : List ℕ) (r : Record) (budget : ℕ) (l₀ : List ℕ
       next-cut : Cut T budget room p (k + j)
       next-cut = cut-more T budget room p k d (h .cut) less
 
-      next-near : p + (k + j) ≤ 3 ^ n
+      next-near : p + (k + j) ≤ 3 ^ g .n
       next-near =
-          let e = end-is n m t in
-          let i : q + j ≤ 3 ^ n = subst (λ (x : ℕ). q + j ≤ x) e (points-end T (budget - k) d q (subst (λ (x : ℕ). q ≤ x) (sym e) (h .near))) in
+          let e = end-is g in
+          let i : q + j ≤ 3 ^ g .n = subst (λ (x : ℕ). q + j ≤ x) e (points-end T (budget - k) d q (subst (λ (x : ℕ). q ≤ x) (sym e) (h .near))) in
           omega (arith, i)
 
       pub points-fit : w .points ≤ left
@@ -171,10 +158,10 @@ module _ (n m : ℕ) (t : List ℕ) (r : Record) (budget : ℕ) (l₀ : List ℕ
       pub found-fit : at + w .found ≤ room
       found-fit = omega (arith, found-are, h .used, found-add T p k j, next-cut .fits)
 
-      pub few : checkedOf n m t ≡ verdict.Done → additions + w .additions ≤ 2 * 3 ^ 20
+      pub few : Checked g → additions + w .additions ≤ g .degree * 3 ^ 20
       few ok =
-          let g : 3 ^ n ≤ 3 ^ 20 = pow-le-pow-right {n = 3} (omega arith) {i = n} {j = 20} (within n m t ok .most) in
-          omega (arith, h .sum, additions-are, cost-add T p k j, cost-most T 2 (cost-two n m t) p (k + j), next-near, g)
+          let a : k + j ≤ 3 ^ 20 = omega (arith, next-near, power-small g ok) in
+          omega (arith, h .sum, additions-are, cost-add T p k j, cost-most T (g .degree) (cost-le g) p (k + j), mul-le-mul-left (g .degree) a)
 
       next-list : l′ ≡ pasted l₀ 0 (bytesFrom (zerosIn T p (k + j)))
       next-list =
@@ -187,10 +174,10 @@ module _ (n m : ℕ) (t : List ℕ) (r : Record) (budget : ℕ) (l₀ : List ℕ
           ∙ paste-paste l₀ 0 u v (omega (arith, a, b, found-add T p k j, next-cut .fits))
           ∙ ap (pasted l₀ 0) (sym (from-append (zerosIn T p k) (zerosIn T q j)) ∙ ap bytesFrom (sym (zeros-add T p k j)))
 
-      next-record : o .«record» ≡ openedAt n m t (p + (k + j))
+      next-record : o .«record» ≡ openedAt g (p + (k + j))
       next-record =
           let e : q + j ≡ p + (k + j) = omega arith in
-          ap (λ (x : Outcome). x .«record») outcome ∙ ap (openedAt n m t) e
+          ap (λ (x : Outcome). x .«record») outcome ∙ ap (openedAt g) e
 
       pub next : Held (k + w .points) (left - w .points) (at + w .found) (additions + w .additions) l′ (o .«record»)
       next =
@@ -206,18 +193,18 @@ module _ (n m : ℕ) (t : List ℕ) (r : Record) (budget : ℕ) (l₀ : List ℕ
           })
 
       -- where something is left, the piece was not empty
-      pub moved : 0 < words → (o .«record» .place .0 ≡ 3 ^ n → ⊥) → 0 < left - w .points → 0 < room - (at + w .found) → 0 < w .points
+      pub moved : 0 < words → (o .«record» .place .0 ≡ 3 ^ g .n → ⊥) → 0 < left - w .points → 0 < room - (at + w .found) → 0 < w .points
       moved some f hb hc =
-          let e = ap (λ (x : Record). x .place .0) next-record ∙ place-opened n m t (p + (k + j)) in
-          let i : q ≡ T .end → ⊥ = λ x. let z = points-none T (budget - k) d q x in let y = end-is n m t in f (e ∙ omega (arith, x, z, y)) in
-          let g : q < T .end = omega (arith, i, end-is n m t, h .near) in
-          let x = points-one T (budget - k) d q g (omega (arith, h .spare, hb)) (omega (arith, some, hc)) in
+          let e = ap (λ (x : Record). x .place .0) next-record ∙ place-opened g (p + (k + j)) in
+          let i : q ≡ T .end → ⊥ = λ x. let z = points-none T (budget - k) d q x in let y = end-is g in f (e ∙ omega (arith, x, z, y)) in
+          let u : q < T .end = omega (arith, i, end-is g, h .near) in
+          let x = points-one T (budget - k) d q u (omega (arith, h .spare, hb)) (omega (arith, some, hc)) in
           omega (arith, x, points-are)
 
   -- ---- the same as the code counts: the places so far are what is gone of the budget
   module _ (left at additions : ℕ) (l : List ℕ) (s : Record) (h : Held (budget - left) left at additions l s) (words : ℕ) (o : Outcome) (l′ : List ℕ) (w : Report)
-      (eo : o ≡ ranOf n m t (s .place .0) left (min words (length l / 8 - at)))
-      (el : l′ ≡ pasted l (8 * at) (bytesFrom (foundIn n m t (s .place .0) left (min words (length l / 8 - at)))))
+      (eo : o ≡ ranOf g (s .place .0) left (min words (length l / 8 - at)))
+      (el : l′ ≡ pasted l (8 * at) (bytesFrom (foundIn g (s .place .0) left (min words (length l / 8 - at)))))
       (ew : w ≡ didOf (o .answer)) where
     pub again : Held (budget - (left - w .points)) (left - w .points) (at + w .found) (additions + w .additions) l′ (o .«record»)
     again =
@@ -226,33 +213,33 @@ module _ (n m : ℕ) (t : List ℕ) (r : Record) (budget : ℕ) (l₀ : List ℕ
         subst (λ (x : ℕ). Held x (left - w .points) (at + w .found) (additions + w .additions) l′ (o .«record»)) e (next k left at additions l s h words o l′ w eo el ew)
 
 -- ---- a piece: the points of a call stand in front of the words that it was lent
-module _ (n m : ℕ) (t : List ℕ) (q b c : ℕ) (words last : List ℕ) (o : Outcome) (h : c ≤ length words)
-    (eo : o ≡ ranOf n m t q b (length (take c words))) (el : last ≡ listAfter (trailOf n m t) b q (take c words)) where
+module _ (g : Given) (q b c : ℕ) (words last : List ℕ) (o : Outcome) (h : c ≤ length words)
+    (eo : o ≡ ranOf g q b (length (take c words))) (el : last ≡ listAfter (trailBehind g) b q (take c words)) where
   long-front : length (take c words) ≡ c
   long-front = length-take-le c words h
 
-  pub piece-outcome : o ≡ ranOf n m t q b c
-  piece-outcome = eo ∙ ap (ranOf n m t q b) long-front
+  pub piece-outcome : o ≡ ranOf g q b c
+  piece-outcome = eo ∙ ap (ranOf g q b) long-front
 
-  count : didOf (o .answer) .found ≡ length (foundIn n m t q b c)
+  count : didOf (o .answer) .found ≡ length (foundIn g q b c)
   unfolding reportOf
   count = ap (λ (x : Outcome). didOf (x .answer) .found) piece-outcome
 
   pub piece-fits : didOf (o .answer) .found ≤ c
-  piece-fits = omega (arith, count, zeros-room (trailOf n m t) b c q)
+  piece-fits = omega (arith, count, zeros-room (trailBehind g) b c q)
 
   last-long : length last ≡ c
-  last-long = ap length el ∙ after-length (trailOf n m t) b q (take c words) ∙ long-front
+  last-long = ap length el ∙ after-length (trailBehind g) b q (take c words) ∙ long-front
 
   pub piece-long : length (last ++ drop c words) ≡ length words
   piece-long = omega (arith, length-append last (drop c words), length-drop c words, last-long, h)
 
-  pub piece-listed : take (didOf (o .answer) .found) (last ++ drop c words) ≡ foundIn n m t q b c
+  pub piece-listed : take (didOf (o .answer) .found) (last ++ drop c words) ≡ foundIn g q b c
   unfolding reportOf
   piece-listed =
-      let T = trailOf n m t in
+      let T = trailBehind g in
       let k = didOf (o .answer) .found in
-      let e : foundIn n m t q b (length (take c words)) ≡ foundIn n m t q b c = ap (foundIn n m t q b) long-front in
+      let e : foundIn g q b (length (take c words)) ≡ foundIn g q b c = ap (foundIn g q b) long-front in
       take-append-le k last (drop c words) (omega (arith, piece-fits, last-long))
       ∙ ap₂ (λ (x : ℕ) (y : List ℕ). take x y) (count ∙ ap length (sym e)) el
       ∙ after-front T b q (take c words) ∙ e

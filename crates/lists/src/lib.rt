@@ -12,9 +12,8 @@ ghost use mathlib.Core.Path.{_≡_};
 ghost use mathlib.Core.Bool.{true};
 ghost use Prim.Native.Nat.{_-_, _*_, _/_, _<_, _≤_, min};
 ghost use lib.ListN.{length};
-ghost use Rattle.refusals.specs.declared.Verdict.the-variants.{Done};
-ghost use Rattle.tables.specs.Answers.{checkedOf};
 ghost use Rattle.codec.specs.Codec.{bytesFrom, pasted};
+ghost use Rattle.given.specs.Given.{quadratic, Checked};
 ghost use Rattle.search.specs.Search.{fits, ranOf};
 ghost use Rattle.lists.specs.Listed.{foundIn, outcomeIn, listIn};
 ghost use Rattle.lists.specs.Pieces.{didOf, GoesOn};
@@ -67,9 +66,9 @@ fn part(
     list: &mut [u8],
     at: usize,
 ) -> Outcome
-    requires { ⌜ (checkedOf n m (now table) ≡ Done) × (fits n m (now table) r ≡ true) × (at ≤ length (now list) / 8) ⌝ }
-    ensures { λ o. ⌜ (o ≡ ranOf n m (now (table .entry)) (r .place .0) left (min (length (now (words .entry))) (length (now (list .entry)) / 8 - at)))
-        × (now (list .exit) ≡ pasted (now (list .entry)) (8 * at) (bytesFrom (foundIn n m (now (table .entry)) (r .place .0) left (min (length (now (words .entry))) (length (now (list .entry)) / 8 - at))))) ⌝ }
+    requires { ⌜ Checked (quadratic n m (now table)) × (fits (quadratic n m (now table)) r ≡ true) × (at ≤ length (now list) / 8) ⌝ }
+    ensures { λ o. ⌜ (o ≡ ranOf (quadratic n m (now (table .entry))) (r .place .0) left (min (length (now (words .entry))) (length (now (list .entry)) / 8 - at)))
+        × (now (list .exit) ≡ pasted (now (list .entry)) (8 * at) (bytesFrom (foundIn (quadratic n m (now (table .entry))) (r .place .0) left (min (length (now (words .entry))) (length (now (list .entry)) / 8 - at))))) ⌝ }
 {
     let room = list.len() / 8 - at;
     let c = lesser(words.len(), room);
@@ -91,9 +90,9 @@ fn filled(
     words: &mut [u64],
     list: &mut [u8],
 ) -> Outcome
-    requires { ⌜ (checkedOf n m (now table) ≡ Done) × (fits n m (now table) r ≡ true) × (0 < length (now words)) ⌝ }
-    ensures { λ o. ⌜ (o ≡ ranOf n m (now (table .entry)) (r .place .0) budget (length (now (list .entry)) / 8))
-        × (now (list .exit) ≡ pasted (now (list .entry)) 0 (bytesFrom (foundIn n m (now (table .entry)) (r .place .0) budget (length (now (list .entry)) / 8)))) ⌝ }
+    requires { ⌜ Checked (quadratic n m (now table)) × (fits (quadratic n m (now table)) r ≡ true) × (0 < length (now words)) ⌝ }
+    ensures { λ o. ⌜ (o ≡ ranOf (quadratic n m (now (table .entry))) (r .place .0) budget (length (now (list .entry)) / 8))
+        × (now (list .exit) ≡ pasted (now (list .entry)) 0 (bytesFrom (foundIn (quadratic n m (now (table .entry))) (r .place .0) budget (length (now (list .entry)) / 8)))) ⌝ }
 {
     let end = positions::power(n);
     let len = list.len() / 8;
@@ -134,8 +133,8 @@ pub fn search_bytes(
     budget: u64,
     list: &mut [u8],
 ) -> Outcome
-    ensures { λ o. ⌜ (o ≡ outcomeIn n m (now (table .entry)) r budget (now (list .entry)))
-        × (now (list .exit) ≡ listIn n m (now (table .entry)) r budget (now (list .entry))) ⌝ }
+    ensures { λ o. ⌜ (o ≡ outcomeIn (quadratic n m (now (table .entry))) r budget (now (list .entry)))
+        × (now (list .exit) ≡ listIn (quadratic n m (now (table .entry))) r budget (now (list .entry))) ⌝ }
 {
     let verdict = search::judged(n, m, table, r, budget, list.len() / 8);
     match verdict {

@@ -32,6 +32,11 @@ number-pos refusal.Count e = omega (arith, e)
 number-pos refusal.Long e = omega (arith, e)
 number-pos refusal.Edges e = omega (arith, e)
 
+-- and so the number of a verdict says whether anything was refused
+pub code-zero : (v : Verdict) → codeOf v ≡ 0 → v ≡ Done
+code-zero Done e = refl
+code-zero (Refused f) e = absurd (number-pos f e)
+
 never : (r : Refusal) → Refused r ≡ Done → ⊥
 never r e = let z : _≡_ {A = ℕ} 0 1 = cc in omega arith
 

@@ -1,3 +1,4 @@
 pub mod RecordLaw
 pub mod VerdictLaw
 pub mod RanLaw
+pub mod TrailLaw

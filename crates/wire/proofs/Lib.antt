@@ -1,3 +1,2 @@
 pub mod WireLaw
-pub mod LentLaw
 pub mod SmallLaw

@@ -35,7 +35,3 @@ recordOf w =
 -- the record of 360 bytes
 abbrev pub recordIn : List ℕ → Record
 recordIn b = recordOf (wordsOf limits.recordWords b)
-
--- the bytes of an answer: five words
-abbrev pub answerLength : ℕ
-answerLength = 40

@@ -1,0 +1,165 @@
+-- The verdict of a call: what 1 and 2 refuse is refused, and what they pass is the search's verdict.
+use mathlib.Core.Path.{_≡_, refl, sym, ap, ap₂, _∙_}
+use mathlib.Core.Bool.{not, false}
+use mathlib.Core.List.{List}
+use Prim.Native.Nat.{ℕ, _+_, _*_, _%_, _^_}
+use native.Mathlib.Omega.{arith}
+use lib.Dec.{eqb, ltb}
+use lib.ListN.{length}
+use borrow.Author.Tests.{eqb-true, eq-eqb, ne-eqb, not-false}
+use Rattle.refusals.specs.declared.Refusal.{Refusal}
+use Rattle.refusals.specs.declared.Refusal.the-variants.{Size, Length}
+use Rattle.refusals.specs.declared.Verdict.{Verdict}
+use Rattle.refusals.specs.declared.Verdict.the-variants.{Done, Refused}
+use Rattle.refusals.specs.Refusal.{codeOf, sized, after}
+use Rattle.refusals.proofs.RefusalLaw.{code-zero, done-test, done-next, refuse-none, refused-next, refused-last, sized-within, sized-next, sized-done}
+use Rattle.refusals.specs.Limits.{Within}
+use Rattle.tables.specs.Monomials.{countOf}
+use Rattle.walks.specs.declared.Report.{Report}
+use Rattle.walks.specs.Calls.{reportOf, pointsIn}
+use Rattle.codec.specs.Codec.{wordsIn, bytesFrom, pasted}
+use Rattle.opening.specs.declared.Record.{Record}
+use Rattle.search.specs.declared.Answer.the-variants as answer
+use Rattle.search.specs.declared.Outcome.{Outcome}
+use Rattle.opening.specs.Opened.{openedAt}
+use Rattle.search.specs.Search.{trailOf, searchVerdict, answerFrom, answerNumber, answerValues}
+use Rattle.lists.specs.Listed.{foundIn, outcomeIn, listIn}
+use Rattle.wire.specs.Wire.{recordIn, recordWords}
+use Rattle.search_calls.specs.Call.{shaped, callVerdict, doneOf, recordBytesAfter, listBytesAfter, answerBytesAfter}
+use Rattle.answers.specs.Written.{recordBytes, answerBytes}
+
+module _ (n m a b c d : ℕ) where
+  shapes-refused : (f : Refusal) (v : Verdict) → sized n m (shaped n a b c d Done) ≡ Refused f → sized n m (shaped n a b c d v) ≡ Refused f
+  shapes-refused f v e =
+      refused-next (ltb n 1) Size f _ _ e λ e. refused-next (ltb 20 n) Size f _ _ e λ e. refused-next (ltb m 1) Size f _ _ e λ e.
+      refused-next (ltb 64 m) Size f _ _ e λ e. refused-next (not (eqb a (16 * countOf n))) Length f _ _ e λ e.
+      refused-next (not (eqb b 360)) Length f _ _ e λ e. refused-next (not (eqb (c % 8) 0)) Length f _ _ e λ e.
+      refused-last (not (eqb d 40)) Length f v e
+
+  -- each return of the code that asks them
+  pub wrong-table : Within n m → (a ≡ 16 * countOf n → ⊥) → Refused Length ≡ sized n m (shaped n a b c d Done)
+  wrong-table w f = sym (sized-next n m (shaped n a b c d Done) w ∙ rw (ne-eqb a (16 * countOf n) f) refl)
+
+  pub wrong-record : Within n m → a ≡ 16 * countOf n → (b ≡ 360 → ⊥) → Refused Length ≡ sized n m (shaped n a b c d Done)
+  wrong-record w e f = sym (sized-next n m (shaped n a b c d Done) w ∙ rw (eq-eqb a (16 * countOf n) e, ne-eqb b 360 f) refl)
+
+  pub wrong-list : Within n m → a ≡ 16 * countOf n → b ≡ 360 → (c % 8 ≡ 0 → ⊥) → Refused Length ≡ sized n m (shaped n a b c d Done)
+  wrong-list w e g f = sym (sized-next n m (shaped n a b c d Done) w ∙ rw (eq-eqb a (16 * countOf n) e, eq-eqb b 360 g, ne-eqb (c % 8) 0 f) refl)
+
+  pub wrong-answer : Within n m → a ≡ 16 * countOf n → b ≡ 360 → c % 8 ≡ 0 → (d ≡ 40 → ⊥) → Refused Length ≡ sized n m (shaped n a b c d Done)
+  wrong-answer w e g h f =
+      sym (sized-next n m (shaped n a b c d Done) w ∙ rw (eq-eqb a (16 * countOf n) e, eq-eqb b 360 g, eq-eqb (c % 8) 0 h, ne-eqb d 40 f) refl)
+
+  pub right : Within n m → a ≡ 16 * countOf n → b ≡ 360 → c % 8 ≡ 0 → d ≡ 40 → Done ≡ sized n m (shaped n a b c d Done)
+  right w e g h f =
+      sym (sized-next n m (shaped n a b c d Done) w ∙ rw (eq-eqb a (16 * countOf n) e, eq-eqb b 360 g, eq-eqb (c % 8) 0 h, eq-eqb d 40 f) refl)
+
+  -- all lengths are right, and v is asked next
+  pub record Shaped : Type 0 where
+    pub within : Within n m
+    pub table : a ≡ 16 * countOf n
+    pub rec : b ≡ 360
+    pub list : c % 8 ≡ 0
+    pub answer : d ≡ 40
+    pub next : (v : Verdict) → sized n m (shaped n a b c d v) ≡ v
+
+  equal : (x y : ℕ) → not (eqb x y) ≡ false → x ≡ y
+  equal x y e = eqb-true x y (not-false (eqb x y) e)
+
+  pub shapes-done : sized n m (shaped n a b c d Done) ≡ Done → Shaped
+  shapes-done e =
+      let w = sized-within n m (shaped n a b c d Done) e in
+      let e1 = sized-done n m (shaped n a b c d Done) e in
+      let t1 = done-test (not (eqb a (16 * countOf n))) Length _ e1 in
+      let e2 = done-next (not (eqb a (16 * countOf n))) Length _ e1 in
+      let t2 = done-test (not (eqb b 360)) Length _ e2 in
+      let e3 = done-next (not (eqb b 360)) Length _ e2 in
+      let t3 = done-test (not (eqb (c % 8) 0)) Length _ e3 in
+      let e4 = done-next (not (eqb (c % 8) 0)) Length _ e3 in
+      let t4 = done-test (not (eqb d 40)) Length Done e4 in
+      record {
+        within = w;
+        table = equal a (16 * countOf n) t1;
+        rec = equal b 360 t2;
+        list = equal (c % 8) 0 t3;
+        answer = equal d 40 t4;
+        next = λ v. sized-next n m (shaped n a b c d v) w ∙ refuse-none (not (eqb a (16 * countOf n))) Length _ t1 ∙ refuse-none (not (eqb b 360)) Length _ t2
+            ∙ refuse-none (not (eqb (c % 8) 0)) Length _ t3 ∙ refuse-none (not (eqb d 40)) Length v t4;
+      }
+
+  -- the same where they were asked by themselves, with the verdict w, whose number k is 0
+  pub shapes-passed : (w : Verdict) → w ≡ sized n m (shaped n a b c d Done) → (k : ℕ) → k ≡ codeOf w → k ≡ 0 → Shaped
+  shapes-passed w e k i z = shapes-done (sym e ∙ code-zero w (sym i ∙ z))
+
+-- ---- what is written, by the verdict
+abbrev ran : Report → Record → Outcome
+ran r s = record { answer = answer.Ran r; «record» = s }
+
+number-on : (v : Verdict) (r : Report) (s : Record) → answerNumber (answerFrom v (ran r s)) ≡ codeOf v
+number-on Done r s = refl
+number-on (Refused f) r s = refl
+
+record-on : (v : Verdict) (r : Report) (s z : Record) (old : List ℕ) → recordBytes (answerFrom v (ran r s)) z old ≡ after v old (bytesFrom (recordWords z))
+record-on Done r s z old = refl
+record-on (Refused f) r s z old = refl
+
+answer-on : (v : Verdict) (e : ℕ) (r : Report) (s : Record) (old : List ℕ)
+    → answerBytes e (answerFrom v (ran r s)) old ≡ after v old (bytesFrom (answerValues e (answerFrom v (ran r s))))
+answer-on Done e r s old = refl
+answer-on (Refused f) e r s old = refl
+
+after-twice : (v : Verdict) (old new : List ℕ) → after v old new ≡ after v old (after v old new)
+after-twice Done old new = refl
+after-twice (Refused f) old new = refl
+
+module _ (n m : ℕ) (table rec : List ℕ) (budget : ℕ) (list answer : List ℕ) where
+  abbrev judged : Verdict
+  judged = callVerdict n m table rec budget list answer
+
+  abbrev said : Verdict
+  said = searchVerdict n m (wordsIn table) (recordIn rec) budget (wordsIn list)
+
+  abbrev given : Outcome
+  given = doneOf n m table rec budget list
+
+  -- what every return of the call says
+  abbrev pub Meets : ℕ → List ℕ → List ℕ → List ℕ → Type 0
+  Meets c rec′ list′ answer′ =
+      (c ≡ codeOf judged) × (rec′ ≡ recordBytesAfter n m table rec budget list answer) × (list′ ≡ listBytesAfter n m table rec budget list answer)
+      × (answer′ ≡ answerBytesAfter n m table rec budget list answer)
+
+  -- the three buffers after, by a verdict
+  abbrev recordBy : Verdict → List ℕ
+  recordBy v = after v rec (bytesFrom (recordWords (given .«record»)))
+
+  abbrev listBy : Verdict → List ℕ
+  listBy v = after v list (listIn n m (wordsIn table) (recordIn rec) budget list)
+
+  abbrev answerBy : Verdict → List ℕ
+  answerBy v = after v answer (bytesFrom (answerValues (3 ^ n) (given .answer)))
+
+  pub call-refused : (w : Verdict) → w ≡ sized n m (shaped n (length table) (length rec) (length list) (length answer) Done) → (codeOf w ≡ 0 → ⊥)
+      → Meets (codeOf w) rec list answer
+  call-refused Done e h = absurd (h refl)
+  call-refused (Refused f) e h =
+      let i : judged ≡ Refused f = shapes-refused n m (length table) (length rec) (length list) (length answer) f said (sym e) in
+      (sym (ap codeOf i), sym (ap recordBy i), sym (ap listBy i), sym (ap answerBy i))
+
+  pub call-done : Shaped n m (length table) (length rec) (length list) (length answer) → (e : ℕ) → e ≡ 3 ^ n
+      → (r : Record) → r ≡ recordIn rec → (o : Outcome) → o ≡ outcomeIn n m (wordsIn table) r budget list
+      → (list′ : List ℕ) → list′ ≡ listIn n m (wordsIn table) r budget list
+      → (c : ℕ) → c ≡ answerNumber (o .answer) → (rec′ : List ℕ) → rec′ ≡ recordBytes (o .answer) (o .«record») rec
+      → (answer′ : List ℕ) → answer′ ≡ answerBytes e (o .answer) answer → Meets c rec′ list′ answer′
+  call-done h e ee r er o eo list′ el c ec rec′ ex answer′ ea =
+      let T = trailOf n m (wordsIn table) in
+      let p = recordIn rec .place .0 in
+      let i : judged ≡ said = h .next said in
+      let g : o ≡ given = eo ∙ ap (λ (x : Record). outcomeIn n m (wordsIn table) x budget list) er in
+      let w = reportOf T budget (length (wordsIn list)) p in
+      let z = openedAt n m (wordsIn table) (p + pointsIn T budget (length (wordsIn list)) p) in
+      let new = pasted list 0 (bytesFrom (foundIn n m (wordsIn table) p budget (length (wordsIn list)))) in (
+        ec ∙ ap (λ (x : Outcome). answerNumber (x .answer)) g ∙ number-on said w z ∙ sym (ap codeOf i),
+        ex ∙ ap (λ (x : Outcome). recordBytes (x .answer) (x .«record») rec) g ∙ record-on said w z (given .«record») rec ∙ sym (ap recordBy i),
+        el ∙ ap (λ (x : Record). listIn n m (wordsIn table) x budget list) er ∙ after-twice said list new ∙ sym (ap listBy i),
+        ea ∙ ap₂ (λ (x : ℕ) (y : Outcome). answerBytes x (y .answer) answer) ee g ∙ answer-on said (3 ^ n) w z answer ∙ sym (ap answerBy i),
+      )

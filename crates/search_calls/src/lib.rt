@@ -1,0 +1,98 @@
+// The search over bytes: lengths are judged, then table and record are read, and record and answer written. Contracts cite specs/Call.
+use answers::ANSWER_LENGTH;
+use opening::Record;
+use refusals::MOST_WORDS;
+use refusals::RECORD_LENGTH;
+use refusals::Refusal;
+use refusals::Verdict;
+use refusals::sizes_fit;
+use search::Outcome;
+ghost use mathlib.Core.Path.{_≡_};
+ghost use Prim.Native.Nat.{_*_, _/_, _≤_};
+ghost use lib.ListN.{length};
+ghost use Rattle.refusals.specs.declared.Verdict.the-variants.{Done};
+ghost use Rattle.refusals.specs.Limits.{mostUnknowns};
+ghost use Rattle.refusals.specs.Refusal.{codeOf, sized};
+ghost use Rattle.tables.specs.Monomials.{countOf};
+ghost use Rattle.codec.specs.Codec.{wordsIn};
+ghost use Rattle.lists.specs.Listed.{outcomeIn, listIn};
+ghost use Rattle.search_calls.specs.Call.{shaped, callVerdict, recordBytesAfter, listBytesAfter, answerBytesAfter};
+
+// How many bytes a table of n unknowns has.
+fn table_bytes(n: u64) -> usize
+    requires { ⌜ (1 ≤ n) × (n ≤ mostUnknowns) ⌝ }
+    ensures { λ r. ⌜ r ≡ 16 * countOf n ⌝ }
+{
+    8 * tables::words(n)
+}
+
+// Refusals 1 and 2 over all arguments, given how many bytes each has.
+fn shapes(n: u64, m: u64, table: usize, record: usize, list: usize, answer: usize) -> Verdict
+    ensures { λ r. ⌜ r ≡ sized n m (shaped n table «record» list answer Done) ⌝ }
+{
+    if !sizes_fit(n, m) {
+        return Verdict::Refused(Refusal::Size);
+    }
+    let bytes = table_bytes(n);
+    if table != bytes {
+        return Verdict::Refused(Refusal::Length);
+    }
+    if record != RECORD_LENGTH {
+        return Verdict::Refused(Refusal::Length);
+    }
+    if list % 8 != 0 {
+        return Verdict::Refused(Refusal::Length);
+    }
+    if answer != ANSWER_LENGTH {
+        return Verdict::Refused(Refusal::Length);
+    }
+    Verdict::Done
+}
+
+// The search over bytes: the table's words are read into `words` first.
+fn over_bytes(
+    n: u64,
+    m: u64,
+    table: &[u8],
+    r: Record,
+    budget: u64,
+    words: &mut [u64],
+    list: &mut [u8],
+) -> Outcome
+    requires { ⌜ length (now table) / 8 ≤ length (now words) ⌝ }
+    ensures { λ o. ⌜ (o ≡ outcomeIn n m (wordsIn (now (table .entry))) r budget (now (list .entry)))
+        × (now (list .exit) ≡ listIn n m (wordsIn (now (table .entry))) r budget (now (list .entry))) ⌝ }
+{
+    let k = table.len() / 8;
+    codec::decode(table, &mut words[..k]);
+    lists::search_bytes(n, m, &words[..k], r, budget, list)
+}
+
+// One call of the search: 0, or the number of the refusal, which alters no byte.
+pub fn search(
+    n: u64,
+    m: u64,
+    table: &[u8],
+    record: &mut [u8],
+    budget: u64,
+    list: &mut [u8],
+    answer: &mut [u8],
+) -> u64
+    ensures { λ c. ⌜ (c ≡ codeOf (callVerdict n m (now (table .entry)) (now («record» .entry)) budget (now (list .entry)) (now (answer .entry))))
+        × (now («record» .exit) ≡ recordBytesAfter n m (now (table .entry)) (now («record» .entry)) budget (now (list .entry)) (now (answer .entry)))
+        × (now (list .exit) ≡ listBytesAfter n m (now (table .entry)) (now («record» .entry)) budget (now (list .entry)) (now (answer .entry)))
+        × (now (answer .exit) ≡ answerBytesAfter n m (now (table .entry)) (now («record» .entry)) budget (now (list .entry)) (now (answer .entry))) ⌝ }
+{
+    let v = shapes(n, m, table.len(), record.len(), list.len(), answer.len());
+    let refused = refusals::code(v);
+    if refused != 0 {
+        return refused;
+    }
+    let r = wire::read_record(record);
+    let end = positions::power(n);
+    let mut words = [0u64; MOST_WORDS];
+    let o = over_bytes(n, m, table, r, budget, &mut words, list);
+    let said = o.answer;
+    let moved = o.record;
+    answers::finish(end, said, moved, record, answer)
+}

@@ -1,3 +1,0 @@
-pub mod Call
-pub mod Operations
-pub mod Written
