@@ -20,6 +20,9 @@ mod parts;
 
 pub use parts::Part;
 pub use parts::Top;
+pub use parts::after;
+pub use parts::note;
+pub use parts::slot;
 
 // The parts after a block, and the slot that moved at its first place.
 pub struct Turned {

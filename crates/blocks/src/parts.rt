@@ -35,7 +35,7 @@ pub struct Top {
 }
 
 // The place is listed where the value is zero, and it is passed.
-fn note(mut x: Part, list: &mut [u64]) -> Part
+pub fn note(mut x: Part, list: &mut [u64]) -> Part
     requires { ⌜ (x .found + 1 ≤ length (now list)) × (x .place + 1 < 2 ^ 64) ⌝ }
     ensures state { λ r. ⌜ ((rest : List Vector) → whole r rest (now (list .exit)) ≡ jotOf (whole x rest (now (list .entry)))) ⌝ }
     ensures went { λ r. ⌜ Went x r 1 0 ⌝ }
@@ -49,7 +49,7 @@ fn note(mut x: Part, list: &mut [u64]) -> Part
 }
 
 // Slot b of the three.
-fn slot(x: Part, b: u32) -> Vector
+pub fn slot(x: Part, b: u32) -> Vector
     requires { ⌜ b < 3 ⌝ }
     ensures { λ r. ⌜ ((rest : List Vector) (l : List ℕ) → r ≡ getD (whole x rest l .slots) b none) ⌝ }
 {
@@ -63,7 +63,7 @@ fn slot(x: Part, b: u32) -> Vector
 }
 
 // The parts with what a move of slot b gave.
-fn after(mut x: Part, b: u32, m: Moved) -> Part
+pub fn after(mut x: Part, b: u32, m: Moved) -> Part
     requires { ⌜ b < 3 ⌝ }
     ensures state { λ r. ⌜ ((rest : List Vector) (l : List ℕ) → whole r rest l ≡ headed (whole x rest l) b m) ⌝ }
     ensures counts { λ r. ⌜ (r .place ≡ x .place) × (r .found ≡ x .found) × (r .additions ≡ m .additions) ⌝ }

@@ -12,7 +12,9 @@ use Rattle.residues.proofs.ModLaw.{Cong, csym, cdrop}
 use Rattle.residues.proofs.SumLaw.{sum-ext, sum-add, sum-scale}
 use Rattle.trits.specs.declared.Vector.{Vector}
 use Rattle.trits.specs.Trit.{trit, Holds, ofTrits}
+use Rattle.trits.proofs.ExtLaw.{of-ext}
 use Rattle.trits.proofs.HoldLaw.{holds-is, is-holds, holds-ext}
+use Rattle.gray.specs.Numbers.{digit}
 use Rattle.polynomials.specs.Poly.{valueOf}
 use Rattle.tables.specs.Monomials.{countOf, rowStart, indexOf}
 use Rattle.tables.specs.Words.{entry}
@@ -21,11 +23,11 @@ use Rattle.tables.proofs.VectorLaw.{of-self}
 use Rattle.evaluation.specs.Parts.{rowOf}
 use Rattle.evaluation.proofs.EvaluateLaw.{rowsPart, rows-whole}
 use Rattle.cubics.specs.Cubic.{Cubic, lowOf, cubesOf, cubicOf}
-use Rattle.cubics.proofs.CubicLaw.{ext-cubic}
+use Rattle.cubics.proofs.CubicLaw.{ext-cubic, cubic-below}
 use Rattle.listed.specs.Lists.{Lists, Rising}
 use Rattle.listed.proofs.ListLaw.{sum-still, sum-listed}
 use Rattle.cubic_tables.specs.Order.{cubicCount, tripleIndex, keyOf}
-use Rattle.cubic_tables.specs.Words.{CubicTable, cubicAt}
+use Rattle.cubic_tables.specs.Words.{CubicTable, cubicAt, cubicValues}
 use Rattle.cubic_tables.proofs.OrderLaw.{pair-is, index-base, triple-lt, cubic-count-low}
 use Rattle.cubic_tables.proofs.WordsLaw.{const-at, lin-at, quad-at, cube-at, cube-none}
 use Rattle.cubic_evaluation.specs.Parts.{cellSum, planeSum}
@@ -142,6 +144,12 @@ module _ (f : Cubic) (n : ℕ) (x : ℕ → ℕ) where
 -- the value at digits is that at their remainders
 pub value-mod : (n m : ℕ) (F : ℕ → Cubic) (x : ℕ → ℕ) (v : Vector) → Holds m (λ e. cubicOf (F e) n (λ k. x k % 3)) v → v ≡ ofTrits m (λ e. cubicOf (F e) n x)
 value-mod n m F x v h = holds-is (holds-ext (λ e l. ext-cubic 3 (omega arith) (F e) n (λ k. x k % 3) x (λ k. cdrop (x k)) .same) h)
+
+-- and at the digits of a point
+pub values-are : (n m : ℕ) (t : List ℕ) (x : ℕ) (d : ℕ → ℕ) → ((k : ℕ) → k < n → d k ≡ digit 3 x k) → ofTrits m (λ e. cubicOf (cubicAt n t e) n d) ≡ cubicValues n m t x
+unfolding cubicValues
+values-are n m t x d h =
+    of-ext m (λ e. cubicOf (cubicAt n t e) n d) (λ e. cubicOf (cubicAt n t e) n (digit 3 x)) (λ e l. ap (λ (y : ℕ). y % 3) (cubic-below (cubicAt n t e) n d (digit 3 x) h))
 
 -- ---- what the code asks
 pub pair-order : (n : ℕ) (at : List ℕ) (c s t : ℕ) → Rising n at c → s ≤ t → t < c → (getD at s 0 ≤ getD at t 0) × (getD at t 0 < n)

@@ -1,10 +1,17 @@
 // The value of a cubic system at a point, from its coefficient table: products with an unknown that is 0 are passed over.
 // Contracts cite cubic_tables/specs/Words; specs/Parts says what the steps sum.
+use cubic_tables::check;
 use cubic_tables::key;
+use evaluation::digits;
+use gray::Point;
 use listed::nonzero;
 use listed::row;
 use listed::turned;
+use positions::power;
 use refusals::MOST_UNKNOWNS;
+use refusals::Refusal;
+use refusals::Verdict;
+use tables::Evaluated;
 use tables::index;
 use tables::vector;
 use trits::Vector;
@@ -18,6 +25,7 @@ ghost use Rattle.cubics.specs.Cubic.{cubicOf};
 ghost use Rattle.listed.specs.Lists.{Lists, Rising};
 ghost use Rattle.cubic_tables.specs.Order.{cubicCount};
 ghost use Rattle.cubic_tables.specs.Words.{CubicTable, cubicAt};
+ghost use Rattle.cubic_tables.specs.Answers.{cubicEvaluate, CubicTells};
 ghost use Rattle.cubic_evaluation.specs.Parts.{cellSum, planeSum};
 
 // What the product of the listed unknowns i and j, number s and t of the list, is multiplied by: its own coefficient, and those of its products with
@@ -102,4 +110,21 @@ pub fn value_at(table: &[u64], n: usize, x: &[u64; MOST_UNKNOWNS]) -> Vector
     let at = l.at;
     let turn = l.turn;
     value_of(table, n, &at, &turn, l.count)
+}
+
+// The value of each equation at a point.
+pub fn evaluate(n: u64, m: u64, coefficients: &[u64], x: Point) -> Evaluated
+    ensures { λ r. ⌜ (r ≡ cubicEvaluate n m (now (coefficients .entry)) (x .0)) × CubicTells n m (now (coefficients .entry)) (x .0) r ⌝ }
+{
+    let verdict = check(n, m, coefficients);
+    match verdict {
+        Verdict::Refused(r) => Evaluated::Refused(r),
+        Verdict::Done => {
+            if x.0 >= power(n) {
+                return Evaluated::Refused(Refusal::Range);
+            }
+            let d = digits(x.0);
+            Evaluated::Value(value_at(coefficients, n as usize, &d))
+        }
+    }
 }

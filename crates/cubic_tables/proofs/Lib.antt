@@ -4,3 +4,4 @@ pub mod SumLaw
 pub mod WordsLaw
 pub mod Facts
 pub mod PackLaw
+pub mod PairLaw

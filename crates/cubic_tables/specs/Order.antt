@@ -1,6 +1,6 @@
 -- The order of the cubic monomials: those of degree up to 2 as in tables; then for each b the products xb·xc·xd for b ≤ c ≤ d in the order of the pairs c, d, without xb·xb·xb.
 use mathlib.Core.Bool.{true, false}
-use Prim.Native.Nat.{ℕ, zero, suc, _+_, _-_, _*_}
+use Prim.Native.Nat.{ℕ, zero, suc, _+_, _-_, _*_, _/_}
 use lib.Dec.{ltb}
 use Rattle.polynomials.specs.Poly.{Poly}
 use Rattle.tables.specs.Monomials.{countOf, rowStart, productNth, nth}
@@ -22,6 +22,17 @@ tripleIndex n b c d = countOf n + tripleStart n b + (rowStart n c - rowStart n b
 -- what is added to the number of the pair c, d among all pairs
 unfoldable pub keyOf : ℕ → ℕ → ℕ
 keyOf n b = countOf n + tripleStart n b - rowStart n b - 1
+
+-- the number of the pair b, c among all pairs of n unknowns, and how many pairs there are
+unfoldable pub pairOf : ℕ → ℕ → ℕ → ℕ
+pairOf n b c = b * n - b * (b + 1) / 2 + c
+
+unfoldable pub pairsOf : ℕ → ℕ
+pairsOf n = n * (n + 1) / 2
+
+-- where a record has its second slot of b, c: at the pair's number among 20 unknowns, whatever n is
+abbrev pub seatOf : ℕ → ℕ → ℕ
+seatOf b c = pairOf 20 b c
 
 -- what xb is multiplied by in the products of three, as products of two
 unfoldable pub planeOf : Cubic → ℕ → Poly

@@ -11,7 +11,7 @@ use Rattle.tables.specs.Words.{entry, tabled, Entries, packedRows}
 use Rattle.cubics.specs.Cubic.{Cubic, cubicOf}
 use Rattle.held.specs.Held as held
 use Rattle.cubics.specs.Whole.{backCubic}
-use Rattle.cubic_tables.specs.Order.{cubicCount, tripleIndex, cubicNth}
+use Rattle.cubic_tables.specs.Order.{cubicCount, tripleIndex, keyOf, pairOf, cubicNth}
 
 -- a legal cubic table of n unknowns and m equations: of the exact length, every pair legal
 abbrev pub CubicTable : ℕ → ℕ → List ℕ → Type 0
@@ -25,6 +25,10 @@ cubicAt n t e = record {
   quad = λ i j. trit (entry t (indexOf n i j)) e;
   cube = λ i j k. elim (same i k) [ zero ↦ trit (entry t (tripleIndex n i j k)) e | suc s ↦ 0 ];
 }
+
+-- the entry of the product of unknowns b, c, d: at the number of the pair c, d, after the key of b
+abbrev pub tripleAt : List ℕ → ℕ → ℕ → ℕ → ℕ → Vector
+tripleAt t n b c d = entry t (keyOf n b + pairOf n c d)
 
 -- the table of a system of m equations: entry k holds coefficient k of each
 unfoldable pub cubicWords : ℕ → ℕ → (ℕ → Cubic) → List ℕ

@@ -9,5 +9,6 @@ pub use checks::check_copy;
 pub use monomials::count;
 pub use monomials::entry;
 pub use monomials::key;
+pub use monomials::pair;
 pub use monomials::triple;
 pub use signed::pack;

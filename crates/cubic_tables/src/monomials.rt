@@ -7,7 +7,7 @@ ghost use Prim.Native.Nat.{_+_, _*_, _<_, _≤_};
 ghost use lib.ListN.{length};
 ghost use Rattle.refusals.specs.Limits.{mostUnknowns};
 ghost use Rattle.tables.specs.Words.{entry};
-ghost use Rattle.cubic_tables.specs.Order.{tripleStart, cubicCount, tripleIndex, keyOf};
+ghost use Rattle.cubic_tables.specs.Order.{tripleStart, cubicCount, tripleIndex, keyOf, pairOf, pairsOf};
 
 // How many products of three there are in r unknowns: C(r + 2, 3) less the r cubes.
 fn triples(r: usize) -> usize
@@ -34,6 +34,14 @@ pub fn key(n: usize, b: usize) -> usize
     let rest = triples(n - b);
     let pairs = index(n, b, b) - n;
     count(n) - rest - pairs
+}
+
+// The number of the pair b, c among all pairs.
+pub fn pair(n: usize, b: usize, c: usize) -> usize
+    requires { ⌜ (n ≤ mostUnknowns) × (b ≤ c) × (c < n) ⌝ }
+    ensures { λ r. ⌜ (r ≡ pairOf n b c) × (r < pairsOf n) × (r < 210) ⌝ }
+{
+    b * n - b * (b + 1) / 2 + c
 }
 
 // The number of the product of unknowns b, c, d.

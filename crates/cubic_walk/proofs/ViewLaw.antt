@@ -10,31 +10,15 @@ use lib.Seq.{getD-set-same, getD-set-other}
 use Rattle.trits.specs.declared.Vector.{Vector}
 use Rattle.trits.specs.Trit.{none}
 use Rattle.trits.specs.Words.{addOf}
-use Rattle.polynomials.specs.Poly.{Poly}
 use Rattle.held.specs.Held.{move}
 use Rattle.held.proofs.KeepLaw.{move-self, move-other, move-leaf}
-use Rattle.held.proofs.RiseLaw.{Rises}
-use Rattle.tables.specs.Monomials.{indexOf, nth}
+use Rattle.held.specs.Stands.{Rises}
 use Rattle.tables.specs.Words.{entry, putAt}
-use Rattle.tables.proofs.IndexLaw.{index-closed}
-use Rattle.tables.proofs.MonomialLaw.{nth-quad}
 use Rattle.tables.proofs.WriteLaw.{entry-put, entry-other}
-use Rattle.cubic_walk.specs.Step.{State, pairOf, seatOf, push, lift, bump, moveOf}
+use Rattle.cubic_tables.specs.Order.{pairOf, seatOf}
+use Rattle.cubic_moves.specs.Step.{State, push, lift, bump, moveOf}
 use Rattle.cubic_walk.specs.Meaning.{heldBy}
-use Rattle.cubic_walk.proofs.TripleLaw.{pair-lt}
-
--- ---- each pair has a seat of its own
-seat-index : (b c : ℕ) → b ≤ c → c < 20 → pairOf 20 b c + 21 ≡ indexOf 20 b c
-unfolding pairOf
-seat-index b c h l = omega (arith, index-closed 20 b c h l)
-
-pub seat-apart : (b c e g : ℕ) → b ≤ c → c < 20 → e ≤ g → g < 20 → seatOf b c ≡ seatOf e g → (b ≡ e) × (c ≡ g)
-seat-apart b c e g h l m o k =
-    let i : indexOf 20 b c ≡ indexOf 20 e g = sym (seat-index b c h l) ∙ ap (λ (x : ℕ). x + 21) k ∙ seat-index e g m o in
-    (by (record { const = 0; lin = λ x. 0; quad = λ x y. x }) i, by (record { const = 0; lin = λ x. 0; quad = λ x y. y }) i)
-  where
-    by : (f : Poly) → indexOf 20 b c ≡ indexOf 20 e g → f .quad b c ≡ f .quad e g
-    by f i = sym (nth-quad 20 f b c h l) ∙ ap (nth 20 f) i ∙ nth-quad 20 f e g m o
+use Rattle.cubic_tables.proofs.PairLaw.{pair-lt, seat-apart}
 
 -- ---- slot b anew
 slot-new : (l : List Vector) (b e : ℕ) (x y : Vector) → b < length l → (b ≡ e → x ≡ y) → ((b ≡ e → ⊥) → getD l e none ≡ y) → getD (set l b x) e none ≡ y

@@ -5,7 +5,8 @@ use lib.ListN.{getD}
 use Rattle.trits.specs.declared.Vector.{Vector}
 use Rattle.trits.specs.Trit.{none}
 use Rattle.tables.specs.Words.{entry}
-use Rattle.cubic_walk.specs.Step.{State, seatOf}
+use Rattle.cubic_tables.specs.Order.{seatOf}
+use Rattle.cubic_moves.specs.Step.{State}
 
 -- the value for no position, a slot for one, a second slot for two, and for three the table's entry T
 unfoldable pub heldBy : (ℕ → ℕ → ℕ → Vector) → State → List ℕ → Vector

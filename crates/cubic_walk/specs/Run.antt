@@ -1,14 +1,14 @@
 -- The search: the cubic walk up to its end, a full list or a spent budget.
-use mathlib.Core.Path.{_≡_}
 use mathlib.Core.Bool.{Bool, _||_}
 use mathlib.Core.List.{List}
-use Prim.Native.Nat.{ℕ, _*_, _^_, _≤_, _<_}
+use Prim.Native.Nat.{ℕ, _*_, _≤_}
 use lib.Dec.{eqb}
-use lib.ListN.{length}
+use lib.ListN.{length, getD}
+use Rattle.trits.specs.Trit.{none}
 use Rattle.walks.specs.Walk.{runOf}
-use Rattle.cubic_walk.specs.Step.{State, walkOf}
-use Rattle.cubic_tables.specs.Order.{cubicCount}
-use Rattle.cubic_walk.specs.Triples.{tripleAt}
+use Rattle.cubic_moves.specs.Step.{State, walkOf}
+use Rattle.cubic_tables.specs.Words.{tripleAt}
+use Rattle.blocks.specs.declared.parts.Part.{Part}
 use Rattle.cubic_walk.specs.declared.Walker.{Walker}
 use Rattle.cubic_walk.specs.declared.Ran.{Ran}
 
@@ -38,15 +38,21 @@ haltOf e s = eqb (s .place) e || eqb (s .found) (length (s .list))
 abbrev pub searchOf : List ℕ → ℕ → ℕ → ℕ → State → State
 searchOf t n e = runOf 3 (walkOf n (tripleAt t n)) (haltOf e)
 
--- the sizes of a table and of the walk's end
-pub record Sized (t : List ℕ) (n e : ℕ) : Type 0 where
-  pub some : 0 < n
-  pub small : n ≤ 20
-  pub table : length t ≡ 2 * cubicCount n
-  pub end : e ≤ 3 ^ n
-
 -- the numbers of a walker with its counts are within their ends
 pub record Sane (e : ℕ) (r : Ran) (l : List ℕ) : Type 0 where
   pub place : r .walker .place ≤ e
   pub found : r .found ≤ length l
   pub additions : r .additions ≤ 3 * r .walker .place
+
+-- the parts of a walker with its counts
+abbrev pub partOf : Ran → Part
+partOf r =
+    record {
+      value = r .walker .value;
+      s0 = getD (r .walker .slots) 0 none;
+      s1 = getD (r .walker .slots) 1 none;
+      s2 = getD (r .walker .slots) 2 none;
+      additions = r .additions;
+      found = r .found;
+      place = r .walker .place;
+    }

@@ -1,16 +1,14 @@
 // The cubic walk over all points in Gray order: second slots, slots, value.
-// Contracts cite specs/Step (what one place does), specs/Run (the search), specs/Triples (where a table's entries stand) and
-// specs/Parts (a block of 27 places).
+// Contracts cite specs/Run (the search); what one place does is cubic_moves/specs/Step.
 use trits::Vector;
+use walk::going;
 ghost use mathlib.Core.Path.{_≡_};
 ghost use Prim.Native.Nat.{_<_, _≤_};
-ghost use Rattle.cubic_walk.specs.Run.{fresh, stateOf, searchOf, Sized};
+ghost use Rattle.cubic_moves.specs.Moves.{Sized};
+ghost use Rattle.cubic_walk.specs.Run.{fresh, stateOf, searchOf};
 
-mod blocks;
-mod moves;
-mod parts;
+mod leaps;
 mod steps;
-mod triples;
 
 // Where a walk stands: the next place to examine, the value at the place before it, the slot of each unknown, and the second slot
 // of each pair as two words, at the pair's number among 20 unknowns.
@@ -55,13 +53,13 @@ pub fn run(table: &[u64], n: usize, end: u64, w: Walker, budget: u64, list: &mut
         found: 0,
     };
     let mut left = budget;
-    while steps::going(left, end, r.walker.place, len, r.found) {
+    while going(left, end, r.walker.place, len, r.found) {
         let start = r.walker.place;
         let first = lead(start, left, len - r.found);
         let a = steps::steps(table, n, end, r, first, list);
         let at = a.walker.place;
         let more = left - (at - start);
-        r = blocks::blocks(table, n, end, a, more, list);
+        r = leaps::leaps(table, n, end, a, more, list);
         left = more - (r.walker.place - at);
     }
     r

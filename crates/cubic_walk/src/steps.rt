@@ -1,26 +1,13 @@
 // Places one by one.
 use crate::Ran;
 use crate::Walker;
-use crate::moves::turn;
-use walk::mark;
+use cubic_moves::turn;
+use moves::mark;
+use walk::going;
 ghost use mathlib.Core.Path.{_≡_};
-ghost use mathlib.Core.Bool.{not, _&&_};
 ghost use Prim.Native.Nat.{_≤_, _+_};
-ghost use lib.Dec.{eqb};
-ghost use Rattle.cubic_walk.specs.Run.{stateOf, searchOf, Sized, Sane};
-
-// Whether there is a place left in the budget and before the end, and an entry free.
-pub(crate) fn going(left: u64, end: u64, place: u64, len: usize, found: usize) -> bool
-    ensures { λ r. ⌜ r ≡ (not (eqb left 0) && not (eqb place end) && not (eqb found len)) ⌝ }
-{
-    if left == 0 {
-        return false;
-    }
-    if place == end {
-        return false;
-    }
-    found != len
-}
+ghost use Rattle.cubic_moves.specs.Moves.{Sized};
+ghost use Rattle.cubic_walk.specs.Run.{stateOf, searchOf, Sane};
 
 // At most budget places, one by one, up to end or a full list. Nothing is copied from place to place.
 pub(crate) fn steps(table: &[u64], n: usize, end: u64, r: Ran, budget: u64, list: &mut [u64]) -> Ran

@@ -8,6 +8,7 @@ use Rattle.residues.proofs.SumLaw.{sum-add, sum-ext}
 use Rattle.held.proofs.FlatLaw.{Flat, Ext, flat-same}
 use Rattle.polynomials.specs.Poly.{valueOf}
 use Rattle.polynomials.specs.Terms.{termsOf}
+use Rattle.polynomials.proofs.PolyLaw.{value-ext}
 use Rattle.polynomials.proofs.TermsLaw.{ext-terms, flat-terms, row-is, whole-sum}
 use Rattle.cubics.specs.Cubic.{Cubic, lowOf, cubesOf, cubicOf, coefficientsOf}
 
@@ -70,3 +71,10 @@ module _ (q : ℕ) (pos : 0 < q) (f : Cubic) (n : ℕ) where
 
   pub ext-cubic : Ext q (cubicOf f n)
   ext-cubic x y s = csym (cof (cubic-terms f n x)) ⨾ ext-terms q pos 3 (coefficientsOf f) 0 n x y s ⨾ cof (cubic-terms f n y)
+
+-- the unknowns from n on do not count
+pub cubic-below : (f : Cubic) (n : ℕ) (x y : ℕ → ℕ) → ((k : ℕ) → k < n → x k ≡ y k) → cubicOf f n x ≡ cubicOf f n y
+unfolding cubicOf cubesOf
+cubic-below f n x y h =
+    ap₂ (λ (u v : ℕ). u + v) (value-ext (lowOf f) n x y h)
+    (sum-ext n _ _ (λ i a. sum-ext (n - i) _ _ (λ d b. sum-ext (n - (i + d)) _ _ (λ e c. ap₂ (λ (u v : ℕ). f .cube i (i + d) (i + d + e) * (u * v)) (h i a) (ap₂ (λ (u v : ℕ). u * v) (h (i + d) (omega arith)) (h (i + d + e) (omega arith)))))))

@@ -24,7 +24,7 @@ ghost use Rattle.evaluation.specs.Parts.{rowOf};
 ghost use Rattle.tables.specs.Answers.{evaluateOf, Tells};
 
 // The 20 lowest digits of a point.
-fn digits(x: u64) -> [u64; MOST_UNKNOWNS]
+pub fn digits(x: u64) -> [u64; MOST_UNKNOWNS]
     ensures { λ r. ⌜ ((k : ℕ) → k < mostUnknowns → getD r k 0 ≡ digit 3 x k) ⌝ }
 {
     let mut r = [0u64; MOST_UNKNOWNS];

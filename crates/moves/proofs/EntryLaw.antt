@@ -76,7 +76,7 @@ module _ (f : ℕ → ℕ) (a : ℕ) where
       ∙ set-set c (a + k) v (f v)
 
   -- a zero found at entry b
-  turned-found : (b v : ℕ) (l : List ℕ) → a ≤ b → b < length l → set (turnedIn f a (b - a) l) b (f v) ≡ turnedIn f a (b + 1 - a) (set l b v)
+  pub turned-found : (b v : ℕ) (l : List ℕ) → a ≤ b → b < length l → set (turnedIn f a (b - a) l) b (f v) ≡ turnedIn f a (b + 1 - a) (set l b v)
   turned-found b v l h k =
       let e : a + (b - a) ≡ b = omega arith in
       let n : suc (b - a) ≡ b + 1 - a = omega arith in

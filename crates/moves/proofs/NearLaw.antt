@@ -31,11 +31,11 @@ record Moved (s r : State) : Type 0 where
   slots : length (r .slots) ≡ length (s .slots)
   list : r .list ≡ s .list
 
-found-le : (b : Bool) (k : ℕ) → (foundOf b k ≤ k + 1) × (k ≤ foundOf b k)
+pub found-le : (b : Bool) (k : ℕ) → (foundOf b k ≤ k + 1) × (k ≤ foundOf b k)
 found-le true k = (omega arith, omega arith)
 found-le false k = (omega arith, omega arith)
 
-list-length : (b : Bool) (x k : ℕ) (l : List ℕ) → length (listOf b x k l) ≡ length l
+pub list-length : (b : Bool) (x k : ℕ) (l : List ℕ) → length (listOf b x k l) ≡ length l
 list-length true x k l = length-set l k x
 list-length false x k l = refl
 

@@ -16,7 +16,7 @@ ghost use Rattle.blocks.specs.Parts.{whole};
 ghost use Rattle.walk.specs.Run.{stateOf, partOf, searchOf, Sane};
 
 // Whether 27 places are left in the budget, before the end and in the list.
-fn room(left: u64, end: u64, place: u64, len: usize, found: usize) -> bool
+pub fn room(left: u64, end: u64, place: u64, len: usize, found: usize) -> bool
     requires { ⌜ (place ≤ end) × (found ≤ len) ⌝ }
     ensures { λ r. ⌜ (r ≡ true → (27 ≤ left) × (place + 27 ≤ end) × (found + 27 ≤ len)) ⌝ }
 {
@@ -30,7 +30,7 @@ fn room(left: u64, end: u64, place: u64, len: usize, found: usize) -> bool
 }
 
 // Whether blocks may begin at a place: one above 0 that 27 divides, among at least four unknowns.
-fn ready(n: usize, place: u64) -> bool
+pub fn ready(n: usize, place: u64) -> bool
     ensures { λ r. ⌜ (r ≡ true → (4 ≤ n) × (0 < place) × (place % 27 ≡ 0)) ⌝ }
 {
     if n < 4 {

@@ -9,6 +9,10 @@ ghost use Rattle.walk.specs.Run.{fresh, stateOf, searchOf};
 mod leaps;
 mod steps;
 
+pub use leaps::ready;
+pub use leaps::room;
+pub use steps::going;
+
 // Where a walk stands: the next place to examine, the value at the place before it, and the slot of each unknown.
 pub struct Walker {
     pub place: u64,

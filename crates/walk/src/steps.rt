@@ -11,7 +11,7 @@ ghost use Rattle.moves.specs.Moves.{Sized};
 ghost use Rattle.walk.specs.Run.{stateOf, searchOf, Sane};
 
 // Whether there is a place left in the budget and before the end, and an entry free.
-fn going(left: u64, end: u64, place: u64, len: usize, found: usize) -> bool
+pub fn going(left: u64, end: u64, place: u64, len: usize, found: usize) -> bool
     ensures { λ r. ⌜ r ≡ (not (eqb left 0) && not (eqb place end) && not (eqb found len)) ⌝ }
 {
     if left == 0 {

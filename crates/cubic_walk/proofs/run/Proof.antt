@@ -5,18 +5,18 @@ use native.Mathlib.Omega.{arith}
 use lib.ListN.{length}
 use borrow.Author.Needs.{needs}
 use Rattle.gray.specs.Numbers.{pointOf}
-use Rattle.cubic_walk.specs.Step.{walkOf}
-use Rattle.cubic_walk.specs.Triples.{tripleAt}
+use Rattle.cubic_moves.specs.Step.{walkOf}
+use Rattle.cubic_tables.specs.Words.{tripleAt}
 use Rattle.cubic_walk.specs.Run.{fresh, stateOf}
-use Rattle.cubic_walk.proofs.NearLaw.{counts, step-near}
+use Rattle.cubic_moves.proofs.NearLaw.{counts, step-near}
 use Rattle.walks.proofs.WalkedLaw.{Walked, Sound, walked-none, walked-on, goes-on, goes-no-more, goes-some}
 use Rattle.cubic_walk.proofs.run.Statement.{statement}
 use Rattle.cubic_walk.proofs.run.Tie as tie
 use Rattle.cubic_walk.proofs.run.Reads as reads
 use Rattle.cubic_walk.proofs.run.Lts as lts
-use Rattle.cubic_walk.proofs.blocks.blocks.Reads as blocks-reads
+use Rattle.cubic_walk.proofs.leaps.leaps.Reads as leaps-reads
 use Rattle.cubic_walk.proofs.lead.Reads as lead-reads
-use Rattle.cubic_walk.proofs.steps.going.Reads as going-reads
+use Rattle.walk.proofs.going.Reads as going-reads
 use Rattle.cubic_walk.proofs.steps.steps.Reads as steps-reads
 
 abbrev Inv-loop : tie.InvT-loop
@@ -26,18 +26,15 @@ Inv-loop table n end budget list₀ len r₀ left₀ list r left =
 abbrev μ-loop : tie.MeasureT-loop
 μ-loop table n end budget list₀ len r₀ left₀ list r left = left
 
--- src/lib.rt:58:5
 loop-holds : tie.Need-loop-holds Inv-loop μ-loop
 loop-holds c =
     let s = c .before .before in
     let a = s .args in
     (refl, walked-none 3 (walkOf (a .n) (tripleAt (a .table .now) (a .n))) counts 3 (a .end) (a .budget) (fresh (a .w) (a .list .now)) record { place = s .pre .1; found = omega arith; additions = omega arith })
 
--- src/lib.rt:58:11
 going-requires : tie.Need-going-requires Inv-loop μ-loop
 going-requires c κs = search needs
 
--- src/lib.rt:60:39
 sub-lead : tie.Need-sub-lead Inv-loop μ-loop
 sub-lead c =
     let l = c .before .before .before .loop in
@@ -47,21 +44,17 @@ sub-lead c =
     let g = goes-on 3 (walkOf (a .n) T) counts 3 (a .end) (a .budget) (l .left) (length (a .list .now)) _ (stateOf (l .r) (l .list)) _ (l .inv .1) refl (c .before .before .going .ensures) (c .before .if1 .taken) in
     omega (arith, g .found, l .inv .0, l .inv .1 .list)
 
--- src/lib.rt:60:13
 lead-requires : tie.Need-lead-requires Inv-loop μ-loop
 lead-requires c κs = search needs
 
--- src/lib.rt:61:13
 steps-requires : tie.Need-steps-requires Inv-loop μ-loop
 steps-requires c κs =
     let o = c .before .before .before .before .before .loop .inv .1 .sound in
     (c .before .before .before .before .before .before .before .before .pre .0, record { place = o .place; found = o .found; additions = o .additions })
 
--- src/lib.rt:63:28
 sub-more : tie.Need-sub-more Inv-loop μ-loop
 sub-more c = omega (arith, c .before .before .steps .ensures .1 .1)
 
--- src/lib.rt:63:20
 sub-more-2 : tie.Need-sub-more-2 Inv-loop μ-loop
 sub-more-2 c =
     let l = c .before .before .before .before .before .before .before .before .loop in
@@ -74,19 +67,15 @@ sub-more-2 c =
     let x = c .before .before .steps in
     omega (arith, x .ensures .1 .1, f .ensures .0)
 
--- src/lib.rt:64:9
-blocks-requires : tie.Need-blocks-requires Inv-loop μ-loop
-blocks-requires c κs = (c .before .before .before .before .before .before .before .before .before .before .before .before .pre .0, c .before .before .before .steps .ensures .1 .0)
+leaps-requires : tie.Need-leaps-requires Inv-loop μ-loop
+leaps-requires c κs = (c .before .before .before .before .before .before .before .before .before .before .before .before .pre .0, c .before .before .before .steps .ensures .1 .0)
 
--- src/lib.rt:65:24
 sub-left : tie.Need-sub-left Inv-loop μ-loop
-sub-left c = omega (arith, c .before .before .before .blocks2 .ensures .1 .1)
+sub-left c = omega (arith, c .before .before .before .leaps .ensures .1 .1)
 
--- src/lib.rt:65:16
 sub-left-2 : tie.Need-sub-left-2 Inv-loop μ-loop
-sub-left-2 c = omega (arith, c .before .before .before .blocks2 .ensures .1 .1)
+sub-left-2 c = omega (arith, c .before .before .before .leaps .ensures .1 .1)
 
--- src/lib.rt:58:5
 loop-less : tie.Need-loop-less Inv-loop μ-loop
 loop-less c =
     let l = c .before .before .before .before .before .before .before .before .before .before .before .before .before .loop in
@@ -97,11 +86,10 @@ loop-less c =
     let f = c .before .before .before .before .before .before .before .before .before .lead in
     let h : 0 < f .result = f .ensures .1 (g .left) in
     let x = c .before .before .before .before .before .before .before .steps in
-    let y = c .before .before .before .blocks2 in
+    let y = c .before .before .before .leaps in
     let p : l .r .walker .place < x .result .walker .place = goes-some 3 (walkOf (a .n) T) counts 3 (step-near (pointOf 3 (a .n)) T) (a .end) (f .result) (l .left) (stateOf (l .r) (l .list)) (stateOf (x .result) _) g h (x .ensures .0) in
     omega (arith, p, g .left, x .ensures .1 .1, f .ensures .0)
 
--- src/lib.rt:58:5
 loop-again : tie.Need-loop-again Inv-loop μ-loop
 loop-again c =
     let l = c .before .before .before .before .before .before .before .before .before .before .before .before .before .loop in
@@ -112,15 +100,13 @@ loop-again c =
     let f = c .before .before .before .before .before .before .before .before .before .lead in
     let h : 0 < f .result = f .ensures .1 (g .left) in
     let x = c .before .before .before .before .before .before .before .steps in
-    let y = c .before .before .before .blocks2 in
+    let y = c .before .before .before .leaps in
     let o = y .ensures .1 .0 in
     (l .inv .0, walked-on 3 (walkOf (a .n) T) counts 3 (step-near (pointOf 3 (a .n)) T) (a .end) (f .result) (a .budget) (l .left) _ (stateOf (l .r) (l .list)) (stateOf (x .result) _) (stateOf (y .result) _) (l .inv .1) (f .ensures .0) (x .ensures .0) (x .kept .1 .1 .1 .1 .1 .0) (y .ensures .0) record { place = o .place; found = o .found; additions = o .additions } (y .kept .1 .1 .1 .1 .1 .0) (y .ensures .1 .1 .0) (y .ensures .1 .1 .1))
 
--- src/lib.rt:45:1
 same-length : tie.Need-same-length Inv-loop μ-loop
 same-length c = c .before .before .loop .inv .1 .list
 
--- src/lib.rt:45:1
 returns : tie.Need-returns Inv-loop μ-loop
 returns c =
     let l = c .before .before .loop in
@@ -143,7 +129,7 @@ run-spec =
     steps-requires
     sub-more
     sub-more-2
-    blocks-requires
+    leaps-requires
     sub-left
     sub-left-2
     loop-less

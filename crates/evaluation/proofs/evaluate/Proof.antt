@@ -7,7 +7,9 @@ use Rattle.refusals.specs.declared.Verdict.the-variants.{Done}
 use Rattle.trits.specs.declared.Vector.{Vector}
 use Rattle.gray.specs.Numbers.{digit}
 use Rattle.tables.specs.declared.Evaluated.the-variants.{Value}
+use Rattle.tables.specs.Monomials.{countOf}
 use Rattle.tables.specs.Words.{valuesAt}
+use Rattle.tables.specs.Answers.{evaluateVerdict}
 use Rattle.tables.proofs.AnswerLaw.{checked-ready}
 use Rattle.evaluation.proofs.AnswerLaw.{value-refused, value-outside, value-inside, tells-of}
 use Rattle.evaluation.proofs.EvaluateLaw.{values-are}
@@ -39,8 +41,8 @@ returns c =
     let d = sym (c .before .before .before .before .before .check .ensures .0) ∙ c .before .before .before .enum-told .given .1 in
     let r = checked-ready (a .n) (a .m) (a .coefficients .now) d in
     let p = c .before .before .power .ensures .0 (omega (arith, r .0)) in
-    let e = sym (value-outside (a .n) (a .m) (a .coefficients .now) (a .x .0) d (omega (arith, p, c .if1 .taken))) in
-    (e, tells-of (a .n) (a .m) (a .coefficients .now) (a .x .0) _ e)
+    let e = sym (value-outside (countOf (a .n)) (a .n) (a .m) (a .coefficients .now) (a .x .0) (valuesAt (a .n) (a .m) (a .coefficients .now) (a .x .0)) d (omega (arith, p, c .if1 .taken))) in
+    (e, tells-of (evaluateVerdict (a .n) (a .m) (a .coefficients .now) (a .x .0)) (valuesAt (a .n) (a .m) (a .coefficients .now) (a .x .0)) _ e)
 
 digits-requires : tie.Need-digits-requires
 digits-requires c κs = search needs
@@ -55,8 +57,8 @@ returns-2 : tie.Need-returns-2
 returns-2 c =
     let a = c .before .before .before .before .before .args in
     let v = c .before .verdict .given in
-    let e = sym (value-refused (a .n) (a .m) (a .coefficients .now) (a .x .0) (v .0 .0) (sym (c .before .before .before .check .ensures .0) ∙ v .1)) in
-    (e, tells-of (a .n) (a .m) (a .coefficients .now) (a .x .0) _ e)
+    let e = sym (value-refused (countOf (a .n)) (a .n) (a .m) (a .coefficients .now) (a .x .0) (valuesAt (a .n) (a .m) (a .coefficients .now) (a .x .0)) (v .0 .0) (sym (c .before .before .before .check .ensures .0) ∙ v .1)) in
+    (e, tells-of (evaluateVerdict (a .n) (a .m) (a .coefficients .now) (a .x .0)) (valuesAt (a .n) (a .m) (a .coefficients .now) (a .x .0)) _ e)
 
 returns-3 : tie.Need-returns-3
 returns-3 c =
@@ -65,8 +67,8 @@ returns-3 c =
     let r = checked-ready (a .n) (a .m) (a .coefficients .now) d in
     let p = c .before .before .before .before .before .power .ensures .0 (omega (arith, r .0)) in
     let e = ap Value (c .value-at .ensures (a .m) (r .1) ∙ values-are (a .n) (a .m) (a .coefficients .now) (a .x .0) (λ k. getD (c .before .before .digits .result) k 0) (λ k h. c .before .before .digits .ensures k (omega (arith, r .0))))
-    ∙ sym (value-inside (a .n) (a .m) (a .coefficients .now) (a .x .0) d (omega (arith, p, c .before .before .before .if1 .left))) in
-    (e, tells-of (a .n) (a .m) (a .coefficients .now) (a .x .0) _ e)
+    ∙ sym (value-inside (countOf (a .n)) (a .n) (a .m) (a .coefficients .now) (a .x .0) (valuesAt (a .n) (a .m) (a .coefficients .now) (a .x .0)) d (omega (arith, p, c .before .before .before .if1 .left))) in
+    (e, tells-of (evaluateVerdict (a .n) (a .m) (a .coefficients .now) (a .x .0)) (valuesAt (a .n) (a .m) (a .coefficients .now) (a .x .0)) _ e)
 
 pub evaluate-spec : {M : Type 1} → statement M
 evaluate-spec =

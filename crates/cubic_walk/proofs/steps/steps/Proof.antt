@@ -5,30 +5,29 @@ use native.Mathlib.Omega.{arith}
 use lib.ListN.{length}
 use borrow.Author.Needs.{needs}
 use Rattle.gray.specs.Numbers.{pointOf}
-use Rattle.cubic_walk.specs.Step.{walkOf}
-use Rattle.cubic_walk.specs.Triples.{tripleAt}
-use Rattle.cubic_walk.specs.Parts.{headed}
+use Rattle.cubic_moves.specs.Step.{walkOf}
+use Rattle.cubic_tables.specs.Words.{tripleAt}
+use Rattle.cubic_moves.specs.Moves.{headed}
 use Rattle.cubic_walk.specs.Run.{stateOf}
-use Rattle.cubic_walk.proofs.MoveLaw.{step-note}
-use Rattle.cubic_walk.proofs.NearLaw.{counts, held, step-near, turns}
+use Rattle.cubic_moves.proofs.MoveLaw.{step-note}
+use Rattle.cubic_moves.proofs.NearLaw.{counts, stateBy, step-near, turns}
 use Rattle.walks.proofs.WalkedLaw.{Walked, Sound, walked-none, walked-one, goes-on, goes-no-more}
 use Rattle.cubic_walk.proofs.steps.steps.Statement.{statement}
 use Rattle.cubic_walk.proofs.steps.steps.Tie as tie
 use Rattle.cubic_walk.proofs.steps.steps.Reads as reads
 use Rattle.cubic_walk.proofs.steps.steps.Lts as lts
 use Rattle.positions.proofs.split.Reads as split-reads
-use Rattle.walk.proofs.mark.Reads as mark-reads
-use Rattle.cubic_walk.proofs.moves.turn.Reads as turn-reads
-use Rattle.cubic_walk.proofs.steps.going.Reads as going-reads
+use Rattle.moves.proofs.mark.Reads as mark-reads
+use Rattle.cubic_moves.proofs.turn.Reads as turn-reads
+use Rattle.walk.proofs.going.Reads as going-reads
 
 abbrev Inv-loop : tie.InvT-loop
 Inv-loop table n end budget list₀ len slots₀ seconds₀ value₀ place₀ additions₀ found₀ left₀ list slots seconds value place additions found left =
-    (len ≡ length list₀) × Walked 3 (walkOf n (tripleAt table n)) counts 3 end budget left (held place₀ value₀ slots₀ seconds₀ additions₀ found₀ list₀) (held place value slots seconds additions found list)
+    (len ≡ length list₀) × Walked 3 (walkOf n (tripleAt table n)) counts 3 end budget left (stateBy place₀ value₀ slots₀ seconds₀ additions₀ found₀ list₀) (stateBy place value slots seconds additions found list)
 
 abbrev μ-loop : tie.MeasureT-loop
 μ-loop table n end budget list₀ len slots₀ seconds₀ value₀ place₀ additions₀ found₀ left₀ list slots seconds value place additions found left = left
 
--- src/steps.rt:42:5
 loop-holds : tie.Need-loop-holds Inv-loop μ-loop
 loop-holds c =
     let s = c .before .before .before .before .before .before in
@@ -36,15 +35,12 @@ loop-holds c =
     let z = s .pre .1 in
     (refl, walked-none 3 (walkOf (a .n) (tripleAt (a .table .now) (a .n))) counts 3 (a .end) (a .budget) (stateOf (a .r) (a .list .now)) record { place = z .place; found = z .found; additions = z .additions })
 
--- src/steps.rt:42:11
 going-requires : tie.Need-going-requires Inv-loop μ-loop
 going-requires c κs = search needs
 
--- src/steps.rt:43:13
 split-requires : tie.Need-split-requires Inv-loop μ-loop
 split-requires c κs = search needs
 
--- src/steps.rt:45:20
 mul-slot : tie.Need-mul-slot Inv-loop μ-loop
 mul-slot c =
     let l = c .before .before .before .loop in
@@ -53,7 +49,6 @@ mul-slot c =
     let g = turns (a .table .now) (a .n) (a .end) (s .pre .0) (a .budget) (l .left) (length (a .list .now)) _ _ _ (l .inv .1) refl (c .before .before .going .ensures) (c .before .if1 .taken) in
     omega (arith, g .low, c .split .ensures .position, s .pre .0 .small)
 
--- src/steps.rt:45:20
 array-copy-out-slot : tie.Need-array-copy-out-slot Inv-loop μ-loop
 array-copy-out-slot c =
     let l = c .before .before .before .loop in
@@ -62,7 +57,6 @@ array-copy-out-slot c =
     let g = turns (a .table .now) (a .n) (a .end) (s .pre .0) (a .budget) (l .left) (length (a .list .now)) _ _ _ (l .inv .1) refl (c .before .before .going .ensures) (c .before .if1 .taken) in
     omega (arith, g .low, c .split .ensures .position, s .pre .0 .small)
 
--- src/steps.rt:46:13
 turn-requires : tie.Need-turn-requires Inv-loop μ-loop
 turn-requires c κs =
     let l = c .before .before .before .before .before .loop in
@@ -73,7 +67,6 @@ turn-requires c κs =
     let v = c .before .before .split .ensures in
     (record { some = z .some; small = z .small; table = z .table; end = omega arith }, (g .far, v .position, v .whole, g .count))
 
--- src/steps.rt:49:9
 mul-slots : tie.Need-mul-slots Inv-loop μ-loop
 mul-slots c =
     let l = c .before .before .before .before .before .before .before .before .loop in
@@ -82,7 +75,6 @@ mul-slots c =
     let g = turns (a .table .now) (a .n) (a .end) (s .pre .0) (a .budget) (l .left) (length (a .list .now)) _ _ _ (l .inv .1) refl (c .before .before .before .before .before .before .before .going .ensures) (c .before .before .before .before .before .before .if1 .taken) in
     omega (arith, g .low, c .before .before .before .before .before .split .ensures .position, s .pre .0 .small)
 
--- src/steps.rt:49:9
 array-set-from-slots : tie.Need-array-set-from-slots Inv-loop μ-loop
 array-set-from-slots c =
     let l = c .before .before .before .before .before .before .before .before .loop in
@@ -91,7 +83,6 @@ array-set-from-slots c =
     let g = turns (a .table .now) (a .n) (a .end) (s .pre .0) (a .budget) (l .left) (length (a .list .now)) _ _ _ (l .inv .1) refl (c .before .before .before .before .before .before .before .going .ensures) (c .before .before .before .before .before .before .if1 .taken) in
     omega (arith, g .low, c .before .before .before .before .before .split .ensures .position, s .pre .0 .small)
 
--- src/steps.rt:50:9
 mark-requires : tie.Need-mark-requires Inv-loop μ-loop
 mark-requires c κs =
     let l = c .before .before .before .before .before .before .before .before .before .loop in
@@ -100,7 +91,6 @@ mark-requires c κs =
     let g = turns (a .table .now) (a .n) (a .end) (s .pre .0) (a .budget) (l .left) (length (a .list .now)) _ _ _ (l .inv .1) refl (c .before .before .before .before .before .before .before .before .going .ensures) (c .before .before .before .before .before .before .before .if1 .taken) in
     (s .pre .0 .small, g .goes .found)
 
--- src/steps.rt:53:9
 add-place : tie.Need-add-place Inv-loop μ-loop
 add-place c =
     let l = c .before .before .before .before .before .before .before .before .before .before .before .before .loop in
@@ -109,7 +99,6 @@ add-place c =
     let g = turns (a .table .now) (a .n) (a .end) (s .pre .0) (a .budget) (l .left) (length (a .list .now)) _ _ _ (l .inv .1) refl (c .before .before .before .before .before .before .before .before .before .before .before .going .ensures) (c .before .before .before .before .before .before .before .before .before .before .if1 .taken) in
     omega (arith, g .goes .place, g .end)
 
--- src/steps.rt:54:9
 sub-left : tie.Need-sub-left Inv-loop μ-loop
 sub-left c =
     let l = c .before .before .before .before .before .before .before .before .before .before .before .before .loop in
@@ -118,7 +107,6 @@ sub-left c =
     let g = turns (a .table .now) (a .n) (a .end) (s .pre .0) (a .budget) (l .left) (length (a .list .now)) _ _ _ (l .inv .1) refl (c .before .before .before .before .before .before .before .before .before .before .before .going .ensures) (c .before .before .before .before .before .before .before .before .before .before .if1 .taken) in
     omega (arith, g .goes .left)
 
--- src/steps.rt:42:5
 loop-less : tie.Need-loop-less Inv-loop μ-loop
 loop-less c =
     let l = c .before .before .before .before .before .before .before .before .before .before .before .before .loop in
@@ -127,14 +115,13 @@ loop-less c =
     let g = turns (a .table .now) (a .n) (a .end) (s .pre .0) (a .budget) (l .left) (length (a .list .now)) _ _ _ (l .inv .1) refl (c .before .before .before .before .before .before .before .before .before .before .before .going .ensures) (c .before .before .before .before .before .before .before .before .before .before .if1 .taken) in
     omega (arith, g .goes .left)
 
--- src/steps.rt:42:5
 loop-again : tie.Need-loop-again Inv-loop μ-loop
 loop-again c =
     let l = c .before .before .before .before .before .before .before .before .before .before .before .before .loop in
     let s = c .before .before .before .before .before .before .before .before .before .before .before .before .before .before .before .before .before .before .before in
     let a = s .args in
     let g = turns (a .table .now) (a .n) (a .end) (s .pre .0) (a .budget) (l .left) (length (a .list .now)) _ _ _ (l .inv .1) refl (c .before .before .before .before .before .before .before .before .before .before .before .going .ensures) (c .before .before .before .before .before .before .before .before .before .before .if1 .taken) in
-    let st = held (l .place) (l .value) (l .slots) (l .seconds) (l .additions) (l .found) (l .list) in
+    let st = stateBy (l .place) (l .value) (l .slots) (l .seconds) (l .additions) (l .found) (l .list) in
     let v = c .before .before .before .before .before .before .before .before .before .split in
     let h = c .before .before .before .before .before .before .turn in
     let m = c .before .before .mark in
@@ -142,11 +129,9 @@ loop-again c =
     let e = step-note T (a .n) st (headed st (v .result .position) (h .result) _) _ _ (h .ensures .0 st refl refl refl refl) (m .ensures .0) (m .ensures .1 .0) in
     (l .inv .0, walked-one 3 (walkOf (a .n) T) counts 3 (step-near (pointOf 3 (a .n)) T) (a .end) (a .budget) (l .left) _ st _ (l .inv .1) (g .goes) e)
 
--- src/steps.rt:26:1
 same-length : tie.Need-same-length Inv-loop μ-loop
 same-length c = search needs
 
--- src/steps.rt:26:1
 returns : tie.Need-returns Inv-loop μ-loop
 returns c =
     let l = c .before .before .loop in

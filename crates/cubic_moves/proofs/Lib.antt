@@ -1,0 +1,3 @@
+pub mod MoveLaw
+pub mod NearLaw
+pub mod EntryLaw
