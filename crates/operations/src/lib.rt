@@ -1,10 +1,12 @@
 // The operations on tables of either degree: the degree is told like n and m, and each operation hands on to its own.
 // Contracts cite specs/Operations.
 use given::Degree;
+use gray::Point;
 use refusals::Verdict;
+use tables::Evaluated;
 ghost use mathlib.Core.Path.{_≡_};
 ghost use Rattle.refusals.specs.Refusal.{codeOf};
-ghost use Rattle.operations.specs.Operations.{packing, packedInto, copying, differencesInto, coefficientsInto};
+ghost use Rattle.operations.specs.Operations.{packing, packedInto, copying, differencesInto, coefficientsInto, evaluatedIn, TellsIn};
 
 // Signed rows into a table of words.
 pub fn pack(degree: Degree, n: u64, m: u64, rows: &[i8], table: &mut [u64]) -> Verdict
@@ -39,5 +41,15 @@ pub fn coefficients(degree: Degree, n: u64, m: u64, table: &[u64], coefficients:
     match degree {
         Degree::Two => differences::coefficients(n, m, table, coefficients),
         Degree::Three => cubic_differences::coefficients(n, m, table, coefficients),
+    }
+}
+
+// The value of each equation at a point.
+pub fn evaluate(degree: Degree, n: u64, m: u64, coefficients: &[u64], x: Point) -> Evaluated
+    ensures { λ r. ⌜ (r ≡ evaluatedIn degree n m (now (coefficients .entry)) (x .0)) × TellsIn degree n m (now (coefficients .entry)) (x .0) r ⌝ }
+{
+    match degree {
+        Degree::Two => evaluation::evaluate(n, m, coefficients, x),
+        Degree::Three => cubic_evaluation::evaluate(n, m, coefficients, x),
     }
 }
