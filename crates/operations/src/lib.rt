@@ -21,7 +21,13 @@ pub fn pack(degree: Degree, n: u64, m: u64, rows: &[i8], table: &mut [u64]) -> V
 }
 
 // The table of differences of a coefficient table.
-pub fn differences(degree: Degree, n: u64, m: u64, coefficients: &[u64], table: &mut [u64]) -> Verdict
+pub fn differences(
+    degree: Degree,
+    n: u64,
+    m: u64,
+    coefficients: &[u64],
+    table: &mut [u64],
+) -> Verdict
     ensures answer { λ r. ⌜ r ≡ copying degree n m (now (coefficients .entry)) (now (table .entry)) ⌝ }
     ensures left { λ r. ⌜ now (table .exit) ≡ differencesInto degree n m (now (coefficients .entry)) (now (table .entry)) ⌝ }
     ensures number { λ r. ⌜ codeOf r ≡ codeOf (copying degree n m (now (coefficients .entry)) (now (table .entry))) ⌝ }
@@ -33,7 +39,13 @@ pub fn differences(degree: Degree, n: u64, m: u64, coefficients: &[u64], table: 
 }
 
 // The coefficient table of a table of differences.
-pub fn coefficients(degree: Degree, n: u64, m: u64, table: &[u64], coefficients: &mut [u64]) -> Verdict
+pub fn coefficients(
+    degree: Degree,
+    n: u64,
+    m: u64,
+    table: &[u64],
+    coefficients: &mut [u64],
+) -> Verdict
     ensures answer { λ r. ⌜ r ≡ copying degree n m (now (table .entry)) (now (coefficients .entry)) ⌝ }
     ensures left { λ r. ⌜ now (coefficients .exit) ≡ coefficientsInto degree n m (now (table .entry)) (now (coefficients .entry)) ⌝ }
     ensures number { λ r. ⌜ codeOf r ≡ codeOf (copying degree n m (now (table .entry)) (now (coefficients .entry))) ⌝ }

@@ -24,7 +24,7 @@ code-requires c κs = search needs
 
 returns : tie.Need-returns
 returns c =
-    let a = c .before .before .before .args in
+    let a = c .before .before .before .before .args in
     c .code .ensures ∙ ap codeOf (c .before .check .ensures .0 ∙ ap (λ (d : Degree). tableVerdict (tableWith d (a .n) (a .m) (a .table .now)) Done) (c .before .before .degree-of .ensures))
 
 pub check-spec : {M : Type 1} → statement M
