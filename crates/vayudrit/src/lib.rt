@@ -4,20 +4,19 @@
 ghost use mathlib.Core.Path.{_≡_};
 ghost use lib.ListN.{length};
 ghost use Rattle.refusals.specs.Refusal.{codeOf};
-ghost use Rattle.tables.specs.Answers.{checkedOf, packVerdict, packAfter, copyVerdict, differencesAfter, coefficientsAfter};
 ghost use Rattle.reader.specs.Answers.{wordsAfter, callOf, callCode, toldAfter};
 ghost use Rattle.exchange.specs.Answers as tidied;
 ghost use Rattle.given.specs.Given.{quadratic};
 ghost use Rattle.number_calls.specs.Call.{convertCall, pointAfter, placeAfter, balancedAfter, unbalancedCall, unbalancedAfter};
-ghost use Rattle.table_calls.specs.Call.{evaluateCall, evaluateAfter};
+ghost use Rattle.table_calls.specs.Call.{checkCall, packCall, packLeft, copyCall, differencesLeft, coefficientsLeft, evaluateCall, evaluateAfter};
 ghost use Rattle.record_calls.specs.Call.{openCall, openAfter};
 ghost use Rattle.search_calls.specs.Call.{callVerdict, recordBytesAfter, listBytesAfter, answerBytesAfter};
 
 // Signed rows into a table of words.
 #[no_mangle]
 pub extern "C" fn vayudrit_pack(n: u64, m: u64, rows: &[i8], table: &mut [u64]) -> u64
-    ensures { λ c. ⌜ (c ≡ codeOf (packVerdict n m (now (rows .entry)) (now (table .entry))))
-        × (now (table .exit) ≡ packAfter n m (now (rows .entry)) (now (table .entry))) ⌝ }
+    ensures { λ c. ⌜ (c ≡ codeOf (packCall n m (now (rows .entry)) (now (table .entry))))
+        × (now (table .exit) ≡ packLeft n m (now (rows .entry)) (now (table .entry))) ⌝ }
 {
     table_calls::pack(n, m, rows, table)
 }
@@ -25,7 +24,7 @@ pub extern "C" fn vayudrit_pack(n: u64, m: u64, rows: &[i8], table: &mut [u64]) 
 // Whether a table has its length and only legal pairs.
 #[no_mangle]
 pub extern "C" fn vayudrit_check(n: u64, m: u64, table: &[u64]) -> u64
-    ensures { λ c. ⌜ c ≡ codeOf (checkedOf n m (now (table .entry))) ⌝ }
+    ensures { λ c. ⌜ c ≡ codeOf (checkCall n m (now (table .entry))) ⌝ }
 {
     table_calls::check(n, m, table)
 }
@@ -38,8 +37,8 @@ pub extern "C" fn vayudrit_differences(
     coefficients: &[u64],
     table: &mut [u64],
 ) -> u64
-    ensures { λ c. ⌜ (c ≡ codeOf (copyVerdict n m (now (coefficients .entry)) (now (table .entry))))
-        × (now (table .exit) ≡ differencesAfter n m (now (coefficients .entry)) (now (table .entry))) ⌝ }
+    ensures { λ c. ⌜ (c ≡ codeOf (copyCall n m (now (coefficients .entry)) (now (table .entry))))
+        × (now (table .exit) ≡ differencesLeft n m (now (coefficients .entry)) (now (table .entry))) ⌝ }
 {
     table_calls::differences(n, m, coefficients, table)
 }
@@ -52,8 +51,8 @@ pub extern "C" fn vayudrit_coefficients(
     table: &[u64],
     coefficients: &mut [u64],
 ) -> u64
-    ensures { λ c. ⌜ (c ≡ codeOf (copyVerdict n m (now (table .entry)) (now (coefficients .entry))))
-        × (now (coefficients .exit) ≡ coefficientsAfter n m (now (table .entry)) (now (coefficients .entry))) ⌝ }
+    ensures { λ c. ⌜ (c ≡ codeOf (copyCall n m (now (table .entry)) (now (coefficients .entry))))
+        × (now (coefficients .exit) ≡ coefficientsLeft n m (now (table .entry)) (now (coefficients .entry))) ⌝ }
 {
     table_calls::coefficients(n, m, table, coefficients)
 }
