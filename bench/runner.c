@@ -127,7 +127,7 @@ static void seed_row(const struct row *row, uint64_t seed) {
 
 static void open_at(const struct task *t, uint64_t place, uint64_t *record) {
     const struct row *row = t->row;
-    if (reference_open(row->n, row->m, t->table, 2 * monomials(row->n), place, record,
+    if (reference_open(row->n, row->m, t->table, 2 * monomials(row->n, 2), place, record,
                        RECORD_WORDS) != 0)
         stop_bench("the reference does not open the record");
 }
@@ -135,7 +135,7 @@ static void open_at(const struct task *t, uint64_t place, uint64_t *record) {
 /* The system at a point, high then low, by the reference. */
 static void value_at(struct task *t, uint64_t point, uint64_t value[2]) {
     uint64_t n = t->row->n, m = t->row->m;
-    size_t size = 2 * monomials(n);
+    size_t size = 2 * monomials(n, 2);
     if (reference_coefficients(n, m, t->table, size, t->coefficients, size) != 0
         || reference_evaluate(n, m, t->coefficients, size, point, value, 2) != 0)
         stop_bench("the reference does not evaluate the system");
@@ -145,7 +145,7 @@ static void value_at(struct task *t, uint64_t point, uint64_t value[2]) {
  * system. The constant is then set so that a random point is a zero. */
 static void draw_table(struct task *t) {
     uint64_t value[2];
-    for (size_t k = 0; k < 2 * monomials(t->row->n); k += 2) {
+    for (size_t k = 0; k < 2 * monomials(t->row->n, 2); k += 2) {
         t->table[k] = t->table[k + 1] = 0;
         for (unsigned e = 0; k > 0 && e < t->row->m; e++) {
             uint64_t trit = random_word() % 3;
@@ -198,7 +198,7 @@ static void set_walk(struct task *t) {
         uint64_t place = s + 1 < row->starts ? 1 + random_word() % (t->end - 2) : t->end - 1;
         open_at(t, place, t->before[s]);
         open_at(t, place + 1, t->after[s]);
-        t->additions += cost_of(place);
+        t->additions += cost_of(place, 2);
     }
 }
 
@@ -229,7 +229,7 @@ static int call(const struct task *t, search_function *search, uint64_t *record,
                 uint64_t length) {
     const struct row *row = t->row;
     uint64_t answer[ANSWER_WORDS], from = record[RECORD_PLACE];
-    r->refusal = search(row->n, row->m, (const uint8_t *)t->table, 16 * monomials(row->n),
+    r->refusal = search(row->n, row->m, (const uint8_t *)t->table, 16 * monomials(row->n, 2),
                         (uint8_t *)record, 8 * RECORD_WORDS, row->budget,
                         (uint8_t *)(r->list + r->found), 8 * length, (uint8_t *)answer, 40);
     if (r->refusal != 0) return RUN_REFUSED;
@@ -256,7 +256,7 @@ static int goes_on(const struct task *t, const struct report *r, int stop, uint6
 static int evaluate(const struct task *t, evaluate_function *evaluate, struct report *r) {
     for (unsigned s = 0; s < t->starts; s++) {
         uint64_t *value = r->list + 2 * s;
-        r->refusal = evaluate(t->row->n, t->row->m, t->coefficients, 2 * monomials(t->row->n), t->at[s], value, 2);
+        r->refusal = evaluate(t->row->n, t->row->m, t->coefficients, 2 * monomials(t->row->n, 2), t->at[s], value, 2);
         if (r->refusal != 0) return RUN_REFUSED;
         r->points++;
         r->found += value[0] == 0;
@@ -284,11 +284,11 @@ static void warm_up(const struct task *t, const struct engine *engine) {
     const struct row *row = t->row;
     uint64_t record[RECORD_WORDS], list[2], answer[ANSWER_WORDS];
     if (job_of(row) == EVALUATIONS) {
-        engine->evaluate(row->n, row->m, t->coefficients, 2 * monomials(row->n), t->at[0], list, 2);
+        engine->evaluate(row->n, row->m, t->coefficients, 2 * monomials(row->n, 2), t->at[0], list, 2);
         return;
     }
     memcpy(record, t->before[0], sizeof record);
-    engine->search(row->n, row->m, (const uint8_t *)t->table, 16 * monomials(row->n), (uint8_t *)record,
+    engine->search(row->n, row->m, (const uint8_t *)t->table, 16 * monomials(row->n, 2), (uint8_t *)record,
                    sizeof record, 1, (uint8_t *)list, sizeof list, (uint8_t *)answer, sizeof answer);
 }
 

@@ -20,9 +20,9 @@ struct lent { uint8_t record[8 * RECORD_WORDS], list[8 * LENT], answer[8 * ANSWE
 
 static void walk_system(uint64_t n, uint64_t m, search_function *walk) {
     uint64_t table[2 * MOST_MONOMIALS] = {0};
-    size_t size = 16 * monomials(n);
+    size_t size = 16 * monomials(n, 2);
     struct lent ours = {{0}, {0}, {1}}, theirs;
-    for (size_t k = 0; k < monomials(n); k++)
+    for (size_t k = 0; k < monomials(n, 2); k++)
         for (uint64_t e = 0, full = below(4); e < m; e++) {
             uint64_t trit = full > 0 ? below(3) : 0;
             table[2 * k] |= (uint64_t)(trit > 0) << e;
