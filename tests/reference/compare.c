@@ -337,19 +337,17 @@ static uint64_t random_number(const struct call *c) {
                   UINT64_MAX, random_word());
 }
 
-static void put_record(struct call *c, uint64_t place) {
+/* The record at a place. At n = 1 a table may be read as one of degree 3, too: then second slot
+ * (0, 0) is the table's entry. */
+static void put_record(struct call *c, unsigned degree, uint64_t place) {
     uint64_t table[2 * MOST_MONOMIALS], record[RECORD_WORDS];
     for (size_t k = 0; k < c->len[0] / 8; k++)
         table[k] = word(c, 0, k);
     reference_open(c->n, c->m, table, c->len[0] / 8, place, record, RECORD_WORDS);
+    if (c->n == 1 && degree == 3)
+        memcpy(record + second_slot(0, 0), table + 2 * product_index(1, 0, 0), 16);
     for (size_t k = 0; k < RECORD_WORDS; k++)
         set_word(c, 1, k, record[k]);
-}
-
-/* At n = 1 the record of the reading of degree 3: second slot (0, 0) is the table's entry. */
-static void put_reading(struct call *c) {
-    for (size_t k = 0; k < 2; k++)
-        set_word(c, 1, second_slot(0, 0) + k, word(c, 0, 2 * product_index(1, 0, 0) + k));
 }
 
 static void put_list(struct call *c, uint64_t entries) {
@@ -371,8 +369,7 @@ static void put_limits(struct call *c) {
 static void begin_search(uint64_t n, unsigned degree) {
     begin(&now, SEARCH, n, random_m(), degree);
     put_random_table(&now);
-    put_record(&now, random_place(n));
-    if (n == 1 && degree == 3) put_reading(&now);
+    put_record(&now, degree, random_place(n));
     put_limits(&now);
 }
 
@@ -525,8 +522,7 @@ static void try_one_unknown(uint64_t k) {
             for (uint64_t entries = 0; entries <= 9; entries++) {
                 for (size_t j = 0; j < 6; j++)
                     set_word(&now, 0, j, table[j]);
-                put_record(&now, place);
-                if (entries > 4) put_reading(&now);
+                put_record(&now, entries > 4 ? 3 : 2, place);
                 put_list(&now, entries % 5);
                 compare_call(&now);
             }
@@ -569,7 +565,7 @@ static void run_walk(void) {
 
 static void try_walk(uint64_t n, unsigned degree, int whole) {
     begin_search(n, degree);
-    if (whole) put_record(&now, 0);
+    if (whole) put_record(&now, degree, 0);
     now.number = UINT64_MAX;
     put_list(&now, LONG_LIST);
     now.steps = 1 + below(TWO_32);
@@ -584,7 +580,7 @@ static void try_other_lengths(uint64_t n, unsigned degree) {
             if (i >= lent_count(&now)) break;
             if (op == PACK) random_rows(now.len[0] / now.m, now.m, (int8_t *)now.bytes[0]);
             else put_random_table(&now);
-            if (op == SEARCH) put_record(&now, random_place(n));
+            if (op == SEARCH) put_record(&now, degree, random_place(n));
             now.number = 1;
             now.len[i] = right_length(&now, i, 5 - degree);
             compare_call(&now);
@@ -595,7 +591,7 @@ static void try_input(uint64_t k) {
     uint64_t kind = below(100);
     if (k < 27) try_one_unknown(k);
     else if (k < 41) try_walk(1 + (k - 27) / 2, k % 2 ? 2 : 3, 1); /* n = 1 to 7, both degrees */
-    else if (k < 81) try_other_lengths(1 + (k - 41) / 2, k % 2 ? 2 : 3);
+    else if (k < 51) try_other_lengths((const uint64_t[]){1, 2, 3, 5, 20}[(k - 41) / 2], k % 2 ? 2 : 3);
     else if (kind < 60) try_simple();
     else if (kind < 95) try_search();
     else if (kind < 96) try_fields();

@@ -448,9 +448,9 @@ static void cubic_lists(void) {
 }
 
 /* By hand, n = 2: 1 + 2x0 + x1 + x0x0 + x0x1 + 2x1x1 + x0x0x1 + x0x1x1. Along the walk, at the
- * points 0, 1, 2, 5, 3, 4, 7, 8, 6, its values are 1, 1, 0, 2, 1, 1, 1, 0, 2. So place 1 adds 0 to the value and
- * place 2 adds 2, which changes slot 0 by 2; place 3 adds 2. The rest comes from these in the same
- * way: the differences are 1, 0, 2, 2, 0, 1, 2, 2. */
+ * points 0, 1, 2, 5, 3, 4, 7, 8, 6, its values are 1, 1, 0, 2, 1, 1, 1, 0, 2. So place 1 adds 0 to
+ * the value and place 2 adds 2, which changes slot 0 by 2; place 3 adds 2. The rest comes from these
+ * in the same way: the differences are 1, 0, 2, 2, 0, 1, 2, 2. */
 static void cubic_by_hand(void) {
     static const int8_t row[8] = {1, 2, 1, 1, 1, 2, 1, 1};
     static const int values[9] = {1, 1, 0, 2, 1, 1, 1, 0, 2}, told[8] = {1, 0, 2, 2, 0, 1, 2, 2};
@@ -551,8 +551,10 @@ static void cubic_refusals(void) {
     static int8_t rows[34];
     uint64_t words[34];
     struct run r;
-    EXPECT(reference_pack(3, 2, rows, 34, words, 34) == 0 && reference_pack(3, 2, rows, 20, words, 20) == 0);
-    EXPECT(reference_pack(3, 2, rows, 20, words, 34) == 2 && reference_pack(3, 2, rows, 34, words, 20) == 2);
+    EXPECT(reference_pack(3, 2, rows, 34, words, 34) == 0);
+    EXPECT(reference_pack(3, 2, rows, 20, words, 20) == 0);
+    EXPECT(reference_pack(3, 2, rows, 20, words, 34) == 2);
+    EXPECT(reference_pack(3, 2, rows, 34, words, 20) == 2);
     EXPECT(reference_check(3, 2, c.words, 34) == 0 && reference_check(3, 2, c.words, 32) == 2);
     EXPECT(reference_differences(3, 2, c.words, 34, words, 20) == 2);
     EXPECT(reference_differences(3, 2, c.words, 20, words, 34) == 2);

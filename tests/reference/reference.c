@@ -510,7 +510,8 @@ static void slot_change_at(const struct system *s, uint64_t place, uint8_t chang
 /* "fields that tickets add come last, ... sized and ordered as at n = 20 in monomial order": the
  * pairs b <= c as the products at n = 20. */
 size_t second_slot(unsigned b, unsigned c) {
-    return RECORD_SECONDS + 2 * (product_index(MOST_UNKNOWNS, b, c) - product_index(MOST_UNKNOWNS, 0, 0));
+    size_t first = product_index(MOST_UNKNOWNS, 0, 0);
+    return RECORD_SECONDS + 2 * (product_index(MOST_UNKNOWNS, b, c) - first);
 }
 
 /* C-12: "a second slot for each pair b <= c: the change last added to slot b at a place whose first

@@ -196,7 +196,8 @@ uint64_t vayudrit_check(uint64_t n, uint64_t m, const uint64_t *table, size_t ta
 
 /* Faults of evaluating a table of degree 3, made to a copy of it. */
 static void break_cubic(uint64_t n, uint64_t *table) {
-    uint64_t *triple = table + 2 * triple_index(n, 0, 0, 1), *other = table + 2 * triple_index(n, 0, 1, 1);
+    uint64_t *triple = table + 2 * triple_index(n, 0, 0, 1);
+    uint64_t *other = table + 2 * triple_index(n, 0, 1, 1);
     if (broken(TRIPLES_EXCHANGED)) exchange((uint8_t *)triple, (uint8_t *)other);
     if (broken(CUBES_COUNTED))
         memmove(triple + 2, triple, 16 * (monomials(n, 3) - monomials(n, 2) - 1));
