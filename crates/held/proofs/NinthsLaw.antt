@@ -15,10 +15,11 @@ use Rattle.positions.proofs.PowerLaw.{power-positions}
 use Rattle.gray.proofs.GrayLaw.{Stays, Carries, carry}
 use Rattle.held.specs.Held.{begins, firstOf}
 use Rattle.held.specs.Visits.{gathered, visits}
+use Rattle.held.specs.Thirds.{turnsOf, lowSum, nextSum, sameSum, lowsSum}
 use Rattle.held.proofs.HeldLaw.{begins-self}
 use Rattle.held.proofs.StemLaw.{stemOf, one-run}
 use Rattle.held.proofs.VisitLaw.{roomy, roomy-more, roomy-same, roomy-ext, gathered-number, visits-number, roomy-one}
-use Rattle.held.proofs.ThirdsLaw.{two, odd, pos, turnsOf, lowSum, turns-low, turns-up, roomy-thirds, roomy-firsts, roomy-ups, roomy-next, roomy-far, sum-turns-up, sum-turns-low, part-is, three-times, visits-pair-far, visits-pair-same, gathered-far, gathered-near, gathered-twice}
+use Rattle.held.proofs.ThirdsLaw.{two, odd, pos, turns-low, turns-up, roomy-thirds, roomy-firsts, roomy-ups, roomy-next, roomy-far, sum-turns-up, sum-turns-low, part-is, three-times, visits-pair-far, visits-pair-same, gathered-far, gathered-near, gathered-twice}
 
 -- ---- places that begin with one position
 above-one : (a y : ℕ) → 0 + a * suc y ≡ a * suc y
@@ -166,15 +167,6 @@ pub after-far : (l k : ℕ) → Cong 3 (sum k (roomy 3 1 (turnsOf (suc (suc l)))
 after-far l k =
     sum-cong 3 k _ (λ z. (z + 2 * (z / 3)) * turnsOf (suc l) (z / 3)) (λ z h. roomy-far l z ⨾ cof (ap (λ (y : ℕ). (z + 2 * (z / 3)) * y) (turns-up (suc l) z)))
     ⨾ sum-lows (turnsOf (suc l)) k ⨾ cof (ap (λ (y : ℕ). lowSum k * y) (sym (turns-up (suc l) k)))
-
-unfoldable pub nextSum : ℕ → ℕ
-nextSum k = k % 3 * (2 * lowSum (k / 3)) + k % 3 / 2 * (k / 3 - k / 3 / 3)
-
-unfoldable pub sameSum : ℕ → ℕ
-sameSum k = k / 3 + k % 3 * (k / 3 * (k / 3)) + k % 3 / 2 * (k / 3)
-
-unfoldable pub lowsSum : ℕ → ℕ
-lowsSum k = 2 * (k / 3) + (k % 3 + 1) / 2 * (2 * (k / 3)) + k % 3 / 2
 
 -- a number that is 3 a + i, and the next
 turn : (P : ℕ → ℕ → ℕ → ℕ → Type 0) → ((a : ℕ) → P a 0 a 1) → ((a : ℕ) → P a 1 a 2) → ((a : ℕ) → P a 2 (suc a) 0) → (k : ℕ) → P (k / 3) (k % 3) (suc k / 3) (suc k % 3)

@@ -16,6 +16,7 @@ use Rattle.gray.specs.Numbers.{pointDigit}
 use Rattle.gray.proofs.GrayLaw.{Stays, Carries, carry, point-low, point-next}
 use Rattle.held.specs.Held.{begins, firstOf}
 use Rattle.held.specs.Visits.{gathered, visits}
+use Rattle.held.specs.Thirds.{turnsOf, lowSum}
 use Rattle.held.proofs.HeldLaw.{begins-self}
 use Rattle.held.proofs.StemLaw.{stemOf}
 use Rattle.held.proofs.PastLaw.{top}
@@ -31,14 +32,6 @@ odd = omega arith
 
 pub pos : 0 < 3
 pos = omega arith
-
--- how often digit l of the point has moved after place y
-unfoldable pub turnsOf : ℕ → ℕ → ℕ
-turnsOf l y = y / 3 ^ l - y / 3 ^ l / 3
-
--- that of digit 0, summed over the places below k, modulo 3
-unfoldable pub lowSum : ℕ → ℕ
-lowSum k = k % 3 / 2 + 2 * (k * (k / 3))
 
 pub turns-low : (y : ℕ) → turnsOf 0 y ≡ y - y / 3
 unfolding turnsOf
