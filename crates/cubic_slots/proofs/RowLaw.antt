@@ -75,7 +75,7 @@ pub ready-late : (n b r : ℕ) (at turn : List ℕ) (count low from : ℕ) → R
 ready-late n b r at turn count low from h t l m = (h .skips .late t l m, listed-lt n (h .x) at turn count (h .lists) t m)
 
 -- ---- sums
-sum-parts : (i j : ℕ) (H : ℕ → ℕ) → sum (i + j) H ≡ sum i H + sum j (λ k. H (i + k))
+pub sum-parts : (i j : ℕ) (H : ℕ → ℕ) → sum (i + j) H ≡ sum i H + sum j (λ k. H (i + k))
 unfolding sum
 sum-parts i zero H = let e : i + 0 ≡ i = omega arith in ap (λ (k : ℕ). sum k H) e ∙ sym (add-zero _)
 sum-parts i (suc j) H = let e : i + suc j ≡ suc (i + j) = omega arith in ap (λ (k : ℕ). sum k H) e ∙ ap (λ (y : ℕ). y + H (i + j)) (sum-parts i j H) ∙ right (sum i H) (sum j (λ k. H (i + k))) (H (i + j))

@@ -51,7 +51,7 @@ pub fn low_sum(k: u64) -> u64
 // The weights of a pair of different unknowns; y is what is left of the place over 3 to the second one.
 pub fn weigh(y: u64) -> Weights
     ensures { λ r. ⌜ Cong 3 (r .whole) (y + 2 * (y / 3)) × Cong 3 (r .same) (y / 3 * (y / 3) + y % 3 * (y / 3) + y % 3 / 2)
-        × Cong 3 (r .next) (2 * lowSum (y / 3) + y % 3 * (y / 3 - y / 3 / 3)) ⌝ }
+        × Cong 3 (r .next) (2 * lowSum (y / 3) + y % 3 * (y / 3 - y / 3 / 3)) × (r .same ≤ 9) × (r .next ≤ 30) ⌝ }
 {
     let k = y / 3;
     let i = y % 3;

@@ -212,9 +212,9 @@ module _ (q : ℕ) (two : 1 < q) (n : ℕ) where
     -- for three less
     pub held-counts-three : (L : List ℕ) → suc (suc (suc (length L))) ≡ d → (p : ℕ) → p < q ^ n
         → Cong q (held q (along q F) L p)
-          (entry q (along q F) L + sum n (λ b. visits q (L ++ b ∷ []) p * entry q (along q F) (L ++ b ∷ [])
-          + sum n (λ c. gathered q (L ++ b ∷ []) (visits q ((L ++ b ∷ []) ++ c ∷ [])) p * entry q (along q F) ((L ++ b ∷ []) ++ c ∷ [])
-          + sum n (λ e. gathered q (L ++ b ∷ []) (gathered q ((L ++ b ∷ []) ++ c ∷ []) (visits q (((L ++ b ∷ []) ++ c ∷ []) ++ e ∷ []))) p * entry q (along q F) (((L ++ b ∷ []) ++ c ∷ []) ++ e ∷ [])))))
+        (entry q (along q F) L + sum n (λ b. visits q (L ++ b ∷ []) p * entry q (along q F) (L ++ b ∷ [])
+        + sum n (λ c. gathered q (L ++ b ∷ []) (visits q ((L ++ b ∷ []) ++ c ∷ [])) p * entry q (along q F) ((L ++ b ∷ []) ++ c ∷ [])
+        + sum n (λ e. gathered q (L ++ b ∷ []) (gathered q ((L ++ b ∷ []) ++ c ∷ []) (visits q (((L ++ b ∷ []) ++ c ∷ []) ++ e ∷ []))) p * entry q (along q F) (((L ++ b ∷ []) ++ c ∷ []) ++ e ∷ [])))))
     held-counts-three L k p l =
         held-gathers (along q F) L p l
         ⨾ cadd (crefl _) (sum-cong q n _ _ (λ b m.
