@@ -20,14 +20,24 @@ nm -g --defined-only "$lib" | awk 'NF == 3 { print $3 }' | sort | diff "$out/dec
 warn="-O2 -Wall -Wextra -Werror -pedantic -Iinclude"
 gcc -std=c99 $warn examples/first.c "$lib" -o "$out/first"
 g++ -x c++ -std=c++11 $warn examples/first.c -x none "$lib" -o "$out/first++"
-for program in first first++; do
-    "$out/$program" | diff - examples/first.out
+gcc -std=c99 $warn examples/trial.c "$lib" -o "$out/trial"
+g++ -x c++ -std=c++11 $warn examples/trial.c -x none "$lib" -o "$out/trial++"
+for example in first trial; do
+    for program in "$example" "$example++"; do
+        "$out/$program" | diff - "examples/$example.out"
+    done
 done
 
 gcc -std=c99 $warn examples/graph.c "$lib" -o "$out/graph"
 g++ -x c++ -std=c++11 $warn examples/graph.c -x none "$lib" -o "$out/graph++"
 for program in graph graph++; do
     "$out/$program" <examples/sites.col | diff - examples/graph.out
+done
+
+gcc -std=c99 $warn examples/tidy.c "$lib" -o "$out/tidy"
+g++ -x c++ -std=c++11 $warn examples/tidy.c -x none "$lib" -o "$out/tidy++"
+for program in tidy tidy++; do
+    "$out/$program" <examples/sites.col | diff - examples/tidy.out
 done
 
 gcc -std=c99 $warn tests/interface.c "$lib" -o "$out/interface"
@@ -42,4 +52,9 @@ gcc -std=c99 -O2 -Wall -Wextra -Werror tests/reference/graph_texts.c tests/refer
 gcc -std=c99 -g -fsanitize=address,undefined -fno-sanitize-recover=all -Wall -Wextra -Werror -Iinclude tests/reference/graph_compare.c tests/reference/reference.c "$lib" -o "$out/graph_compare"
 "$out/graph_texts" "${SEED:-1}" 1200 "$out/texts"
 "$out/graph_compare" "$out"/texts/*
+# The same texts and those of larger graphs tidied, against the second program.
+mkdir "$out/larger"
+"$out/graph_texts" "${SEED:-1}" 900 "$out/larger" 20
+gcc -std=c99 -g -fsanitize=address,undefined -fno-sanitize-recover=all -Wall -Wextra -Werror -Iinclude tests/reference/tidy_compare.c tests/reference/tidy.c tests/reference/reference.c "$lib" -o "$out/tidy_compare"
+"$out/tidy_compare" "$out"/texts/* "$out"/larger/*
 echo "the C interface: all as expected"

@@ -5,38 +5,11 @@
 set -euo pipefail
 cd "$(dirname "$0")/.."
 seed=${SEED:-1} texts=${TEXTS:-612}
-out=$(mktemp -d)
-trap 'rm -rf "$out"' EXIT
-mkdir "$out/tmp" "$out/texts" "$out/expected"
+. tests/command.sh
 
 # The first run builds the program, which rt then runs as nobody in the usual temporary folder.
 ./layouts examples/triangle.col >"$out/stdout"
 export TMPDIR=$out/tmp # where nothing may be left
-
-checks=0
-fail() { echo "tests/layouts.sh: $*" >&2; exit 1; }
-passed() { checks=$((checks + 1)); }
-
-# status_of COMMAND...: its exit status; what it wrote is in $out/stdout and $out/stderr
-status_of() {
-    local status=0
-    "$@" >"$out/stdout" 2>"$out/stderr" || status=$?
-    echo "$status"
-}
-
-# gives STATUS WORDS COMMAND...: the exit status, and the words on standard error ("" for none at all)
-gives() {
-    local wanted=$1 words=$2 status
-    shift 2
-    status=$(status_of "$@") || fail "$*: $(head -n 3 "$out/stderr")"
-    [[ $status -eq $wanted ]] || fail "$*: status $status and not $wanted: $(head -n 3 "$out/stderr")"
-    if [[ -n $words ]]; then
-        grep -qe "$words" "$out/stderr" || fail "$*: no words \"$words\": $(head -n 3 "$out/stderr")"
-    elif [[ -s $out/stderr ]]; then
-        fail "$*: unexpected words: $(head -n 3 "$out/stderr")"
-    fi
-    passed
-}
 
 # ---- the examples ----
 for file in examples/*.col; do
@@ -292,16 +265,13 @@ done <<'END'
 END
 
 # ---- signals at random moments: to the script, and to the program ----
-until_true() { local turn; for ((turn = 0; turn < 200; turn++)); do ! "$@" || return 0; sleep 0.02; done; return 1; }
 has_lines() { [[ $(grep -c '' "$2" 2>/dev/null) == "$1" ]]; }
-gone() { ! kill -0 "$1" 2>/dev/null; }
 is_clean() { [[ -z $(ls "$TMPDIR") && -z $(find /tmp -maxdepth 1 -name 'vayudrit.*' -newer "$out/began") ]]; }
 clean() { is_clean || fail "left behind: $(ls "$TMPDIR" /tmp)"; }
 printf 'p edge 20 6\ne 1 2\ne 1 3\ne 1 4\ne 2 3\ne 2 4\ne 3 4\n' >"$out/silent" # seconds without a line
 : >"$out/began"
 moment() { sleep "0.$((RANDOM % 4))$((RANDOM % 10))"; }
 RANDOM=$seed
-child_of() { awk -v parent="$1" '{ sub(/.*\) /, "") } $2 == parent { split(FILENAME, part, "/"); print part[3] }' /proc/[0-9]*/stat 2>/dev/null | head -n 1 || :; }
 # killed SIGNAL WHOM [AT]: during a search, at a random moment or once the program runs; nothing is left of it when the script ends
 killed() {
     local script shell='' program='' whom status=0
@@ -408,8 +378,6 @@ gives 0 '' on_a_terminal
 grep -q 'crate [01] of 2\(, base\)\?, 0 s so far' "$out/terminal" || fail "the line of a build: $(cat -v "$out/terminal")"
 
 # ---- many texts: the program against the second program ----
-compile() { ${CC:-cc} -std=c99 -Wall -Wextra -Werror "$@"; }
-sanitize=(-g -O1 "-fsanitize=address,undefined" -fno-sanitize-recover=all)
 compile -O2 tests/reference/{layouts_model,reference}.c -o "$out/model"
 compile "${sanitize[@]}" -c tests/reference/reference.c -o "$out/reference.o"
 for name in layouts_model graph_texts; do

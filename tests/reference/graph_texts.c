@@ -1,11 +1,11 @@
 /* Texts for the reader of graph files, valid and damaged.
  *
- *   graph_texts SEED K             writes text K of the seed to standard output
- *   graph_texts SEED COUNT FOLDER  writes texts 1 to COUNT to FOLDER/1, FOLDER/2, ...
+ *   graph_texts SEED K                  writes text K of the seed to standard output
+ *   graph_texts SEED COUNT FOLDER [MOST] writes texts 1 to COUNT to FOLDER/1, FOLDER/2, ...
  *
  * Every third text is valid. The others go through the damages below in turn; a damage may
- * leave a text valid. No text that is valid has more than MOST vertices, so that a search takes
- * milliseconds: reference.c reads each text, and a larger one is drawn again. */
+ * leave a text valid. No text that is valid has more than MOST vertices (9 unless it is named), so
+ * that a search takes milliseconds: reference.c reads each text, and a larger one is drawn again. */
 #include "random.h"
 #include "reference.h"
 
@@ -15,8 +15,9 @@
 #include <stdlib.h>
 #include <string.h>
 
-enum { MOST = 9, ROOM = 70000 };
+enum { ROOM = 70000 };
 
+static unsigned most = 9;
 static uint8_t text[ROOM];
 static size_t length;
 
@@ -140,7 +141,7 @@ static void write_graph(unsigned n, unsigned m) {
 }
 
 static void write_valid(void) {
-    unsigned n = 2 + below(MOST - 1);
+    unsigned n = 2 + below(most - 1);
     write_graph(n, ONE_OF(1, 1 + below(n), 1 + below(2 * n), 1 + below(64), 64, 65, 65 + below(100)));
 }
 
@@ -312,7 +313,7 @@ static void damage(enum damage kind) {
 static int too_large(void) {
     static uint64_t words[READER_WORDS];
     struct graph graph;
-    return reference_read(text, length, words, READER_WORDS, &graph) == 0 && graph.n > MOST;
+    return reference_read(text, length, words, READER_WORDS, &graph) == 0 && graph.n > most;
 }
 
 static void write_text(uint64_t seed, uint64_t k) {
@@ -336,10 +337,12 @@ static void save_text(const char *folder, uint64_t k) {
 
 int main(int count, char **words) {
     uint64_t seed, k;
-    if (count != 3 && count != 4) fail("usage: SEED K, or SEED COUNT FOLDER");
+    if (count < 3 || count > 5) fail("usage: SEED K, or SEED COUNT FOLDER [MOST]");
     seed = strtoull(words[1], NULL, 10);
     k = strtoull(words[2], NULL, 10);
     if (k == 0) fail("texts are counted from 1");
+    if (count == 5) most = (unsigned)strtoull(words[4], NULL, 10);
+    if (most < 2 || most > MOST_UNKNOWNS) fail("MOST is 2 to 20");
     if (count == 3) {
         write_text(seed, k);
         if (fwrite(text, 1, length, stdout) != length || fflush(stdout) != 0) fail("no output");

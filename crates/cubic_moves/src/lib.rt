@@ -132,16 +132,6 @@ pub fn turn(
     let f = positions::split(rest - 1);
     let c = b + f.position;
     let kb = key(n, b);
-    head(
-        table,
-        n,
-        kb,
-        b,
-        c,
-        f.rest - 1,
-        slot,
-        value,
-        additions,
-        seconds,
-    )
+    let x = f.rest - 1;
+    head(table, n, kb, b, c, x, slot, value, additions, seconds)
 }

@@ -92,19 +92,8 @@ pub(crate) fn leaps(table: &[u64], n: usize, end: u64, r: Ran, budget: u64, list
         let c = b + g.position;
         let slot = slots[b];
         let kb = all[b];
-        let t = block27(
-            table,
-            n,
-            x,
-            k,
-            kb,
-            b,
-            c,
-            g.rest - 1,
-            slot,
-            &mut seconds,
-            list,
-        );
+        let rest = g.rest - 1;
+        let t = block27(table, n, x, k, kb, b, c, rest, slot, &mut seconds, list);
         let up = t.slot;
         let y = t.part;
         slots[b] = up;

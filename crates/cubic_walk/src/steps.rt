@@ -23,30 +23,20 @@ pub(crate) fn steps(table: &[u64], n: usize, end: u64, r: Ran, budget: u64, list
     let mut seconds = w.seconds;
     let mut value = w.value;
     let mut place = w.place;
-    let mut additions = r.additions;
+    let mut cost = r.additions;
     let mut found = r.found;
     let mut left = budget;
     while going(left, end, place, len, found) {
         let f = positions::split(place);
         let b = f.position;
         let slot = slots[b];
-        let h = turn(
-            table,
-            n,
-            place,
-            b,
-            f.rest,
-            slot,
-            value,
-            additions,
-            &mut seconds,
-        );
+        let h = turn(table, n, place, b, f.rest, slot, value, cost, &mut seconds);
         let up = h.slot;
         let next = h.value;
         slots[b] = up;
         found = mark(n, next, place, found, list);
         value = next;
-        additions = h.additions;
+        cost = h.additions;
         place += 1;
         left -= 1;
     }
@@ -58,7 +48,7 @@ pub(crate) fn steps(table: &[u64], n: usize, end: u64, r: Ran, budget: u64, list
     };
     Ran {
         walker,
-        additions,
+        additions: cost,
         found,
     }
 }

@@ -5,15 +5,14 @@ use mathlib.Core.Logic.{_↔_}
 use mathlib.Core.List.{List, [], _∷_, map}
 use Prim.Native.Nat.{ℕ, zero, suc, _+_, _-_, _*_, _%_, _^_, _<_}
 use native.Mathlib.Omega.{arith}
-use lib.Dec.{eqb, ltb}
+use lib.Dec.{eqb}
 use lib.IntN.{ℤ, pos, _*ℤ_}
 use lib.ListN.{length, getD}
-use borrow.Author.Tests.{eq-eqb, le-ltb}
 use Rattle.refusals.specs.declared.Refusal.the-variants as refusal
 use Rattle.refusals.specs.declared.Verdict.{Verdict}
 use Rattle.refusals.specs.declared.Verdict.the-variants as verdict
 use Rattle.refusals.specs.Refusal.{refuse, after}
-use Rattle.refusals.proofs.RefusalLaw.{refuse-none, sized-within, sized-next}
+use Rattle.refusals.proofs.RefusalLaw.{sized-within}
 use Rattle.refusals.specs.Limits.{Within}
 use Rattle.residues.specs.Residue.{floorMod}
 use Rattle.residues.specs.Sums.{sum}
@@ -23,17 +22,17 @@ use Rattle.gray.proofs.MapLaw.{place-of-point}
 use Rattle.polynomials.specs.Poly.{Poly, valueOf, tableOf}
 use Rattle.polynomials.proofs.FormLaw.{half-three}
 use Rattle.tables.specs.Monomials.{countOf, indexOf}
-use Rattle.tables.specs.Words.{entry, legalFront, Table, polyAt, packed, differencesOf}
-use Rattle.tables.specs.Answers.{long, paired, packVerdict, packAfter, copyVerdict}
+use Rattle.tables.specs.Words.{entry, polyAt, packed, differencesOf}
+use Rattle.tables.specs.Answers.{long, packVerdict, packAfter, copyVerdict}
 use Rattle.tables.proofs.IndexLaw.{index-lt}
-use Rattle.tables.proofs.WordLaw.{nth-poly, front-whole}
+use Rattle.tables.proofs.WordLaw.{nth-poly}
 use Rattle.tables.proofs.AgreeLaw.{Agree, agree-trans, back-agree, back-of-table}
 use Rattle.tables.proofs.RoundLaw.{differences-table, differences-hold, packed-table, packed-holds}
 use Rattle.walks.specs.Runs.{Request, SaysEnded}
 use Rattle.walks.specs.Zeros.{Rising, placesIn}
 use Rattle.walks.proofs.ZeroLaw.{places-in, places-rise}
 use Rattle.given.specs.Given.{Given, quadratic, behind, valuesOf, Checked}
-use Rattle.given.proofs.TableLaw.{checked-of}
+use Rattle.given.proofs.TableLaw.{checked-of, copy-into}
 use Rattle.given.proofs.ValuesLaw.{value-agree}
 use Rattle.opening.specs.declared.Record.{Record}
 use Rattle.opening.specs.Opened.{openedAt, noRecord, openVerdict, openOf}
@@ -111,15 +110,7 @@ places-back n [] h = refl
 places-back n (x ∷ l) h =
     ap₂ (λ (y : ℕ) (k : List ℕ). y ∷ k) (place-of-point 3 two n x (h 0 (omega arith))) (places-back n l (λ i k. h (suc i) (omega arith)))
 
--- ---- what is not refused
-copy-into : (n m : ℕ) (from to : List ℕ) → Within n m → Table n m from → length to ≡ 2 * countOf n → copyVerdict n m from to ≡ verdict.Done
-copy-into n m from to w h room =
-    let f : legalFront m from ≡ countOf n = front-whole m (countOf n) from (h .size) .1 (h .legal) in
-    sized-next n m (long n from (long n to (paired n m from verdict.Done))) w
-    ∙ refuse-none (not (eqb (length from) (2 * countOf n))) refusal.Length (long n to (paired n m from verdict.Done)) (ap not (eq-eqb _ _ (h .size)))
-    ∙ refuse-none (not (eqb (length to) (2 * countOf n))) refusal.Length (paired n m from verdict.Done) (ap not (eq-eqb _ _ room))
-    ∙ refuse-none (ltb (legalFront m from) (countOf n)) (refusal.Pair (legalFront m from)) verdict.Done (le-ltb (legalFront m from) (countOf n) (omega (arith, f)))
-
+-- ---- the whole way, where nothing is refused
 module _ (n m : ℕ) (rows : List ℤ) (c d : List ℕ) (ok : packVerdict n m rows c ≡ verdict.Done) (room : length d ≡ 2 * countOf n) where
   abbrev made : Given
   made = quadratic n m (differencesOf n m (packed n m rows))

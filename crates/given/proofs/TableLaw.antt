@@ -1,16 +1,23 @@
 -- What a checked table is, and what is asked after it.
-use mathlib.Core.Path.{_≡_, sym, _∙_}
+use mathlib.Core.Path.{_≡_, sym, ap, _∙_}
+use mathlib.Core.Bool.{not}
 use mathlib.Core.List.{List}
-use Prim.Native.Nat.{ℕ, _^_, _≤_}
+use Prim.Native.Nat.{ℕ, _*_, _^_, _≤_}
 use native.Mathlib.Nat.{pow-le-pow-right}
 use native.Mathlib.Omega.{arith}
+use lib.Dec.{eqb, ltb}
+use lib.ListN.{length}
+use borrow.Author.Tests.{eq-eqb, le-ltb}
 use Rattle.refusals.specs.declared.Refusal.{Refusal}
+use Rattle.refusals.specs.declared.Refusal.the-variants.{Length, Pair}
 use Rattle.refusals.specs.declared.Verdict.{Verdict}
 use Rattle.refusals.specs.declared.Verdict.the-variants.{Done, Refused}
 use Rattle.refusals.specs.Limits.{Within}
-use Rattle.refusals.proofs.RefusalLaw.{sized-within, sized-done}
-use Rattle.tables.specs.Words.{Entries, Table}
-use Rattle.tables.specs.Answers.{longOf, pairedOf}
+use Rattle.refusals.proofs.RefusalLaw.{refuse-none, sized-within, sized-next, sized-done}
+use Rattle.tables.specs.Monomials.{countOf}
+use Rattle.tables.specs.Words.{legalFront, Entries, Table}
+use Rattle.tables.specs.Answers.{long, paired, longOf, pairedOf, copyVerdict}
+use Rattle.tables.proofs.WordLaw.{front-whole}
 use Rattle.tables.proofs.AnswerLaw.{long-done, paired-done, entries-accepted, entries-refused, entries-passed}
 use Rattle.cubic_tables.specs.Words.{CubicTable}
 use Rattle.given.specs.Given.{Given, quadratic, cubic, countIn, tableVerdict, Checked}
@@ -65,3 +72,12 @@ cubic-table-of n m t ok = entries-of (cubic n m t) ok
 
 pub checked-of : (n m : ℕ) (t : List ℕ) → Within n m → Table n m t → Checked (quadratic n m t)
 checked-of n m t w a = checked-if (quadratic n m t) w a
+
+-- a copy of a legal table into room of its size is not refused
+pub copy-into : (n m : ℕ) (from to : List ℕ) → Within n m → Table n m from → length to ≡ 2 * countOf n → copyVerdict n m from to ≡ Done
+copy-into n m from to w h room =
+    let f : legalFront m from ≡ countOf n = front-whole m (countOf n) from (h .size) .1 (h .legal) in
+    sized-next n m (long n from (long n to (paired n m from Done))) w
+    ∙ refuse-none (not (eqb (length from) (2 * countOf n))) Length (long n to (paired n m from Done)) (ap not (eq-eqb _ _ (h .size)))
+    ∙ refuse-none (not (eqb (length to) (2 * countOf n))) Length (paired n m from Done) (ap not (eq-eqb _ _ room))
+    ∙ refuse-none (ltb (legalFront m from) (countOf n)) (Pair (legalFront m from)) Done (le-ltb (legalFront m from) (countOf n) (omega (arith, f)))

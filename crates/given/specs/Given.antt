@@ -4,6 +4,7 @@ use mathlib.Core.Bool.{_&&_}
 use mathlib.Core.List.{List}
 use Prim.Native.Nat.{ℕ, _*_}
 use lib.Dec.{ltb, leb, eqb}
+use lib.ListN.{length}
 use Rattle.refusals.specs.declared.Verdict.{Verdict}
 use Rattle.refusals.specs.declared.Verdict.the-variants.{Done}
 use Rattle.refusals.specs.Choice.{pick}
@@ -49,6 +50,9 @@ cubic n m t = tableWith Three n m t
 -- where no degree is told, the number of words tells it: at n = 1, where both lengths are the same, it is 2
 abbrev pub degreeTold : ℕ → ℕ → Degree
 degreeTold n words = pick (ltb 1 n && leb n mostUnknowns && eqb words (2 * cubicCount n)) Three Two
+
+abbrev pub tableTold : ℕ → ℕ → List ℕ → Given
+tableTold n m t = tableWith (degreeTold n (length t)) n m t
 
 -- equation e of the system behind a table of degree 2, and of degree 3
 abbrev pub behind : ℕ → List ℕ → ℕ → Poly

@@ -19,7 +19,8 @@ use Rattle.refusals.proofs.RefusalLaw.{done-test, done-next}
 use Rattle.graphs.specs.declared.shapes.Shape.{Shape}
 use Rattle.graphs.specs.declared.shapes.Shape.the-variants.{Comment, Problem, Edge, Unknown}
 use Rattle.graphs.specs.Shapes.{shapeOf}
-use Rattle.graphs.specs.Reading.{verticesMost, linesMost, State, start, declared, Turn, on, stop, problemFault, edgeFault, fullFault, orElse, carry, takeLine, graph, refused, endOf, readLines}
+use Rattle.lines.specs.Lines.{linesOf}
+use Rattle.graphs.specs.Reading.{textMost, verticesMost, linesMost, wordsLeast, State, start, declared, Turn, on, stop, problemFault, edgeFault, fullFault, orElse, carry, takeLine, graph, refused, endOf, readLines, outcomeOf}
 use Rattle.graphs.specs.Edges.{Ends, takeOnce}
 use Rattle.graphs.specs.Drawn.{noEnds}
 use Rattle.graphs.specs.Scans.{endsOf, stateIn, foundOf, isRefused}
@@ -206,3 +207,17 @@ ends-at (suc k) xs ys e h =
     (λ d.
     let b : ¬ (e ≡ k) = d in
     List·getD-append (endsOf k xs ys) _ noEnds e (omega (arith, length-ends k xs ys)) ∙ ends-at k xs ys e (omega arith))
+
+-- ---- the outcome, test by test
+module _ (t : List ℕ) (w : ℕ) where
+  pub outcome-long : textMost < length t → outcomeOf t w ≡ refused why.Long 0
+  unfolding outcomeOf
+  outcome-long h = rw (lt-ltb textMost (length t) h)
+
+  pub outcome-words : length t ≤ textMost → w < wordsLeast → outcomeOf t w ≡ refused why.Length 0
+  unfolding outcomeOf
+  outcome-words h l = rw (le-ltb textMost (length t) h, lt-ltb w wordsLeast l)
+
+  pub outcome-lines : length t ≤ textMost → wordsLeast ≤ w → outcomeOf t w ≡ readLines 1 start (linesOf t)
+  unfolding outcomeOf
+  outcome-lines h l = rw (le-ltb textMost (length t) h, le-ltb w wordsLeast l)

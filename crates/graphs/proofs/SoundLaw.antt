@@ -178,10 +178,10 @@ module _ (v k : ℕ) (xs ys : List ℕ) (d : Drawn v (endsOf k xs ys)) where
 refused-line : (r f : Refusal) (k j : ℕ) → refused r k ≡ refused f j → k ≡ j
 refused-line r f k j e = cc
 
-graph-refused : (v : ℕ) (es : List Ends) (f : Refusal) (j : ℕ) → graph v es ≡ refused f j → ⊥
+pub graph-refused : (v : ℕ) (es : List Ends) (f : Refusal) (j : ℕ) → graph v es ≡ refused f j → ⊥
 graph-refused v es f j e = let z : _≡_ {A = ℕ} 0 1 = cc in omega arith
 
-refuse-line : (b : Bool) (r f : Refusal) (j n : ℕ) (o : Outcome) → (o ≡ refused f j → j ≤ n) → refuseAt b r 0 o ≡ refused f j → j ≤ n
+pub refuse-line : (b : Bool) (r f : Refusal) (j n : ℕ) (o : Outcome) → (o ≡ refused f j → j ≤ n) → refuseAt b r 0 o ≡ refused f j → j ≤ n
 refuse-line true r f j n o h e = omega (arith, refused-line r f 0 j e)
 refuse-line false r f j n o h e = h e
 

@@ -1,14 +1,14 @@
 -- What a text means: its lines, read in order; the refusals of each line and at the end, in document 01's order.
 use mathlib.Core.Bool.{Bool, true, false, not, _&&_}
 use mathlib.Core.List.{List, [], _∷_}
-use Prim.Native.Nat.{ℕ, suc, _+_}
+use Prim.Native.Nat.{ℕ, suc, _+_, _*_}
 use lib.Dec.{eqb, ltb, leb}
 use lib.ListN.{length}
 use Rattle.refusals.specs.declared.Refusal.{Refusal}
 use Rattle.refusals.specs.declared.Refusal.the-variants as why
 use Rattle.refusals.specs.declared.Verdict.{Verdict}
 use Rattle.refusals.specs.declared.Verdict.the-variants.{Done, Refused}
-use Rattle.refusals.specs.Refusal.{refuse}
+use Rattle.refusals.specs.Refusal.{numberOf, refuse}
 use Rattle.lines.specs.Lines.{linesOf}
 use Rattle.graphs.specs.declared.shapes.Shape.{Shape}
 use Rattle.graphs.specs.declared.shapes.Shape.the-variants.{Comment, Problem, Edge, Unknown}
@@ -79,6 +79,10 @@ takeLine (declared v e k es) (Edge a b) = carry (orElse (edgeFault v e k a b) (f
 pub data Outcome : Type 0 where
   graph : (vertices : ℕ) (list : List Ends) → Outcome
   refused : (why : Refusal) (line : ℕ) → Outcome
+
+-- a refusal and its line in one number
+abbrev pub numberAt : Refusal → ℕ → ℕ
+numberAt r k = numberOf r + 256 * k
 
 -- r at line k where the test holds, else what is asked next
 abbrev pub refuseAt : Bool → Refusal → ℕ → Outcome → Outcome

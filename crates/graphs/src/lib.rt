@@ -1,7 +1,5 @@
 // Graph files: a text read line by line into a graph, or the first refusal and its line. Nothing lent is written here.
 // Contracts cite lines/specs/Lines (what stands in a line), specs/Shapes (what a line says), specs/Reading (what a text means) and specs/Scans.
-use crate::shapes::Shape;
-use crate::shapes::shape_of;
 use lines::find;
 use refusals::Refusal;
 use refusals::Verdict;
@@ -12,11 +10,14 @@ ghost use lib.Dec.{eqb};
 ghost use lib.ListN.{length, getD, set};
 ghost use Rattle.lines.specs.Lines.{linesOf};
 ghost use Rattle.graphs.specs.Shapes.{shapeOf};
-ghost use Rattle.graphs.specs.Reading.{textMost, verticesMost, linesMost, edgesMost, problemFault, edgeFault, fullFault, takeLine, carry, start, endOf, readLines};
-ghost use Rattle.graphs.specs.Scans.{stateOf, scanOf, edgesOf, foundOf, isRefused, cellOf, Kept, Fits, pairState};
+ghost use Rattle.graphs.specs.Reading.{textMost, verticesMost, linesMost, edgesMost, problemFault, edgeFault, fullFault, takeLine, carry, start, endOf, readLines, numberAt};
+ghost use Rattle.graphs.specs.Scans.{stateOf, scanOf, edgesOf, foundOf, isRefused, cellOf, Seen, Kept, Fits, pairState};
 ghost use Rattle.graphs.specs.declared.shapes.Shape.the-variants.{Edge, Problem};
 
 mod shapes;
+
+pub use shapes::Shape;
+pub use shapes::shape_of;
 
 // A text has at most so many bytes.
 pub const TEXT_MOST: usize = 32768;
@@ -47,11 +48,12 @@ pub struct Taken {
     pub graph: Graph,
 }
 
-// What the whole text gives: a refusal with its line, or the graph.
+// What the whole text gives: a refusal with its line, or the graph; and the flags of the edges so far.
 pub struct Scan {
     pub verdict: Verdict,
     pub line: u64,
     pub graph: Graph,
+    pub seen: [u8; 441],
 }
 
 // A graph of no edges yet.
@@ -300,7 +302,7 @@ fn end_fault(g: Graph) -> Verdict
 // The whole text.
 pub fn read_lines(text: &[u8]) -> Scan
     requires { ⌜ length (now text) ≤ textMost ⌝ }
-    ensures { λ r. ⌜ scanOf r ≡ readLines 1 start (linesOf (now (text .entry))) ⌝ }
+    ensures { λ r. ⌜ (scanOf r ≡ readLines 1 start (linesOf (now (text .entry)))) × Seen (edgesOf (r .graph)) (r .seen) ⌝ }
 {
     let mut g = fresh(false, 0, 0);
     let mut seen = [0u8; 441];
@@ -316,6 +318,7 @@ pub fn read_lines(text: &[u8]) -> Scan
                 verdict,
                 line,
                 graph,
+                seen,
             };
         }
         g = graph;
@@ -327,5 +330,15 @@ pub fn read_lines(text: &[u8]) -> Scan
         verdict,
         line: 0,
         graph: g,
+        seen,
     }
+}
+
+// A refusal and its line in one number.
+pub fn numbered(why: Refusal, line: u64) -> u64
+    requires { ⌜ line ≤ 1 + textMost ⌝ }
+    ensures { λ c. ⌜ c ≡ numberAt why line ⌝ }
+{
+    let number = refusals::number(why);
+    number + 256 * line
 }

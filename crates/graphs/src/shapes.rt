@@ -36,7 +36,7 @@ fn edge_line(p: Pair) -> Shape
 }
 
 // The shape of a line.
-pub(crate) fn shape_of(line: &[u8]) -> Shape
+pub fn shape_of(line: &[u8]) -> Shape
     ensures { λ r. ⌜ r ≡ shapeOf (now (line .entry)) ⌝ }
 {
     if comment(line) {

@@ -5,15 +5,13 @@ use mathlib.Core.Logic.{_↔_}
 use mathlib.Core.Bool.{Bool, true, false, _&&_}
 use mathlib.Core.Option.{Option, none, some}
 use mathlib.Core.List.{List, [], _∷_, map}
-use Prim.Native.Nat.{ℕ, zero, suc, _+_, _-_, _*_, _^_}
+use Prim.Native.Nat.{ℕ, zero, suc, _+_, _*_, _^_}
 use lib.Dec.{ltb}
 use lib.ListN.{length, getD}
-use Rattle.refusals.specs.declared.Verdict.the-variants.{Done}
 use Rattle.refusals.specs.Choice.{pick}
 use Rattle.refusals.specs.Refusal.{codeOf}
 use Rattle.gray.specs.Numbers.{pointOf}
 use Rattle.tables.specs.Monomials.{countOf}
-use Rattle.tables.specs.Answers.{checkedOf}
 use Rattle.walks.specs.declared.Report.{Report}
 use Rattle.walks.specs.declared.Stop.{Stop}
 use Rattle.walks.specs.declared.Stop.the-variants.{Ended, Full, Spent}
@@ -21,11 +19,12 @@ use Rattle.walks.specs.Calls.{stopNumber}
 use Rattle.walks.specs.Runs.{Request, Reply, Engine, pointsTold, awayWith, Sums, sumsOf, EachReply}
 use Rattle.walks.specs.Zeros.{placesIn, Holds, Once}
 use Rattle.codec.specs.Codec.{wordsIn, bytesFrom}
+use Rattle.given.specs.Given.{Given, Checked}
 use Rattle.opening.specs.Opened.{openedAt}
-use Rattle.search.specs.Search.{trailOf}
-use Rattle.demand.specs.Demand.{CommonZero}
+use Rattle.search.specs.Search.{trailBehind}
+use Rattle.demand.specs.Demand.{CommonZero, allAdditions}
 use Rattle.wire.specs.Wire.{recordWords}
-use Rattle.search_calls.specs.Call.{callVerdict, recordBytesAfter, listBytesAfter, answerBytesAfter}
+use Rattle.search_calls.specs.Call.{inWords, callVerdict, recordBytesAfter, listBytesAfter, answerBytesAfter}
 
 -- the report that the five words of an answer say
 abbrev pub stopSaid : ℕ → ℕ → Stop
@@ -41,13 +40,13 @@ abbrev pub toldBy : ℕ → List ℕ → Option Report
 toldBy zero answer = some (reportSaid (wordsIn answer))
 toldBy (suc c) answer = none
 
--- one call on bytes: the list is lent as the bytes of its words, and read as words again
-abbrev pub replyBy : ℕ → ℕ → List ℕ → List ℕ → List ℕ → Request → Reply (List ℕ)
-replyBy n m table answer rec q =
+-- one call on bytes, as those of the table g are: the list is lent as the bytes of its words, and read as words again
+abbrev pub replyBy : Given → List ℕ → List ℕ → Request → Reply (List ℕ)
+replyBy g answer rec q =
     record {
-      told = toldBy (codeOf (callVerdict n m table rec (q .budget) (bytesFrom (q .list)) answer)) (answerBytesAfter n m table rec (q .budget) (bytesFrom (q .list)) answer);
-      state = recordBytesAfter n m table rec (q .budget) (bytesFrom (q .list)) answer;
-      list = wordsIn (listBytesAfter n m table rec (q .budget) (bytesFrom (q .list)) answer);
+      told = toldBy (codeOf (callVerdict g rec (q .budget) (bytesFrom (q .list)) answer)) (answerBytesAfter g rec (q .budget) (bytesFrom (q .list)) answer);
+      state = recordBytesAfter g rec (q .budget) (bytesFrom (q .list)) answer;
+      list = wordsIn (listBytesAfter g rec (q .budget) (bytesFrom (q .list)) answer);
     }
 
 -- whether every number of a list is a word; a list that is none can't be lent, and nothing is called
@@ -60,23 +59,24 @@ lentIf true a b = a
 lentIf false a b = b
 
 -- the engine; `answers` says what the answer's bytes held before each call
-unfoldable pub bytesCall : ℕ → ℕ → List ℕ → (List ℕ → Request → List ℕ) → Engine (List ℕ)
-bytesCall n m table answers rec q = lentIf (areWords (q .list)) (replyBy n m table (answers rec q) rec q) (awayWith rec q)
+unfoldable pub bytesCall : Given → (List ℕ → Request → List ℕ) → Engine (List ℕ)
+bytesCall g answers rec q = lentIf (areWords (q .list)) (replyBy g (answers rec q) rec q) (awayWith rec q)
 
 -- the bytes of the record opened at place p
-unfoldable pub recordAt : ℕ → ℕ → List ℕ → ℕ → List ℕ
-recordAt n m table p = bytesFrom (recordWords (openedAt n m (wordsIn table) p))
+unfoldable pub recordAt : Given → ℕ → List ℕ
+recordAt g p = bytesFrom (recordWords (openedAt (inWords g) p))
 
--- a checked table in its exact number of bytes, and 40 bytes for each answer
-pub record Lent (n m : ℕ) (table : List ℕ) (answers : List ℕ → Request → List ℕ) : Type 0 where
-  pub bytes : length table ≡ 16 * countOf n
-  pub checked : checkedOf n m (wordsIn table) ≡ Done
+-- a checked table of degree 2 in its exact number of bytes, and 40 bytes for each answer
+pub record Lent (g : Given) (answers : List ℕ → Request → List ℕ) : Type 0 where
+  pub degree : g .degree ≡ 2
+  pub bytes : length (g .words) ≡ 16 * countOf (g .n)
+  pub checked : Checked (inWords g)
   pub answer : (rec : List ℕ) (q : Request) → length (answers rec q) ≡ 40
 
 -- the answer's bytes after a call
-abbrev pub answerAfter : ℕ → ℕ → List ℕ → (List ℕ → Request → List ℕ) → List ℕ → Request → List ℕ
-answerAfter n m table answers rec q =
-    pick (areWords (q .list)) (answerBytesAfter n m table rec (q .budget) (bytesFrom (q .list)) (answers rec q)) (answers rec q)
+abbrev pub answerAfter : Given → (List ℕ → Request → List ℕ) → List ℕ → Request → List ℕ
+answerAfter g answers rec q =
+    pick (areWords (q .list)) (answerBytesAfter g rec (q .budget) (bytesFrom (q .list)) (answers rec q)) (answers rec q)
 
 -- what they are: as they were where it told nothing; where it told w, from place p, the words stop, place, points, additions and found,
 -- and the place is the one that it came to, also when it ended
@@ -85,26 +85,26 @@ OneAnswer p old new none = new ≡ old
 OneAnswer p old new (some w) = wordsIn new ≡ stopNumber (w .stop) ∷ (p + w .points) ∷ w .points ∷ w .additions ∷ w .found ∷ []
 
 -- that of every call of a run, each begun with the record that the one before left
-abbrev pub EachAnswer : ℕ → ℕ → List ℕ → (List ℕ → Request → List ℕ) → ℕ → List ℕ → List Request → Type 0
-EachAnswer n m table answers p rec [] = Unit {0}
-EachAnswer n m table answers p rec (q ∷ qs) =
-    OneAnswer p (answers rec q) (answerAfter n m table answers rec q) (bytesCall n m table answers rec q .told)
-    × EachAnswer n m table answers (p + pointsTold (bytesCall n m table answers rec q .told)) (bytesCall n m table answers rec q .state) qs
+abbrev pub EachAnswer : Given → (List ℕ → Request → List ℕ) → ℕ → List ℕ → List Request → Type 0
+EachAnswer g answers p rec [] = Unit {0}
+EachAnswer g answers p rec (q ∷ qs) =
+    OneAnswer p (answers rec q) (answerAfter g answers rec q) (bytesCall g answers rec q .told)
+    × EachAnswer g answers (p + pointsTold (bytesCall g answers rec q .told)) (bytesCall g answers rec q .state) qs
 
 -- the run from the record opened at place 0
-abbrev pub nightOf : ℕ → ℕ → List ℕ → (List ℕ → Request → List ℕ) → List Request → Sums (List ℕ)
-nightOf n m table answers qs = sumsOf (bytesCall n m table answers) (recordAt n m table 0) qs
+abbrev pub nightOf : Given → (List ℕ → Request → List ℕ) → List Request → Sums (List ℕ)
+nightOf g answers qs = sumsOf (bytesCall g answers) (recordAt g 0) qs
 
 -- demand 3 over bytes, of a run whose last accepted answer says "ended": each call was refused and changed no byte of record, list and answer,
 -- or its answer tells that it examined the next places, at most its budget, at least one before the end, its record's bytes are those
 -- opened at the place it came to, and its list has the zeros among its own places in front and the rest as it was;
 -- the joined lists are all common zeros, each once, in Gray order; points and additions sum to those of the whole walk
-pub record WholeNight (n m : ℕ) (table : List ℕ) (answers : List ℕ → Request → List ℕ) (qs : List Request) : Type 0 where
-  pub each : EachReply (trailOf n m (wordsIn table)) (recordAt n m table) (bytesCall n m table answers) 0 (recordAt n m table 0) qs
-  pub answered : EachAnswer n m table answers 0 (recordAt n m table 0) qs
-  pub last : nightOf n m table answers qs .last ≡ recordAt n m table (3 ^ n)
-  pub all : (x : ℕ) → Holds x (nightOf n m table answers qs .listed) ↔ CommonZero n m (wordsIn table) x
-  pub once : Once (nightOf n m table answers qs .listed)
-  pub order : nightOf n m table answers qs .listed ≡ map (pointOf 3 n) (placesIn (trailOf n m (wordsIn table)) 0 (3 ^ n))
-  pub points : nightOf n m table answers qs .points ≡ 3 ^ n
-  pub additions : nightOf n m table answers qs .additions ≡ 2 * (3 ^ n - 1) - n
+pub record WholeNight (g : Given) (answers : List ℕ → Request → List ℕ) (qs : List Request) : Type 0 where
+  pub each : EachReply (trailBehind (inWords g)) (recordAt g) (bytesCall g answers) 0 (recordAt g 0) qs
+  pub answered : EachAnswer g answers 0 (recordAt g 0) qs
+  pub last : nightOf g answers qs .last ≡ recordAt g (3 ^ g .n)
+  pub all : (x : ℕ) → Holds x (nightOf g answers qs .listed) ↔ CommonZero (inWords g) x
+  pub once : Once (nightOf g answers qs .listed)
+  pub order : nightOf g answers qs .listed ≡ map (pointOf 3 (g .n)) (placesIn (trailBehind (inWords g)) 0 (3 ^ g .n))
+  pub points : nightOf g answers qs .points ≡ 3 ^ g .n
+  pub additions : nightOf g answers qs .additions ≡ allAdditions g

@@ -1,3 +1,4 @@
 pub mod LineLaw
 pub mod SplitLaw
 pub mod ReturnLaw
+pub mod WrittenLaw

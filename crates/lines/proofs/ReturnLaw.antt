@@ -26,15 +26,19 @@ other-true true n = absurd (n refl)
 other-true false n = refl
 
 -- ---- a byte in a list
-has-none : (x : ℕ) → has x [] ≡ false
+pub has-none : (x : ℕ) → has x [] ≡ false
 unfolding has
 has-none x = refl
 
-has-next : (x y : ℕ) (t : List ℕ) → (y ≡ x → ⊥) → has x (y ∷ t) ≡ has x t
+pub has-cons : (x y : ℕ) (t : List ℕ) → has x (y ∷ t) ≡ (eqb y x || has x t)
+unfolding has
+has-cons x y t = refl
+
+pub has-next : (x y : ℕ) (t : List ℕ) → (y ≡ x → ⊥) → has x (y ∷ t) ≡ has x t
 unfolding has
 has-next x y t d = rw (ne-eqb y x d, has)
 
-has-append : (x : ℕ) (s t : List ℕ) → has x (s ++ t) ≡ (has x s || has x t)
+pub has-append : (x : ℕ) (s t : List ℕ) → has x (s ++ t) ≡ (has x s || has x t)
 unfolding has
 has-append x [] t = refl
 has-append x (y ∷ s) t = ap (λ (b : Bool). eqb y x || b) (has-append x s t) ∙ assoc (eqb y x) (has x s) (has x t)

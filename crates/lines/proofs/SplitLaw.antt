@@ -13,11 +13,11 @@ use borrow.Author.Tests.{eq-eqb, ne-eqb}
 use Rattle.lines.specs.Lines.{firstOf, grow, linesOf}
 use Rattle.lines.proofs.LineLaw.{first-stop, first-more}
 
-lines-feed : (x : ℕ) (t : List ℕ) → x ≡ 10 → linesOf (x ∷ t) ≡ [] ∷ linesOf t
+pub lines-feed : (x : ℕ) (t : List ℕ) → x ≡ 10 → linesOf (x ∷ t) ≡ [] ∷ linesOf t
 unfolding linesOf
 lines-feed x t e = rw (eq-eqb x 10 e, linesOf)
 
-lines-byte : (x : ℕ) (t : List ℕ) → (x ≡ 10 → ⊥) → linesOf (x ∷ t) ≡ grow x (linesOf t)
+pub lines-byte : (x : ℕ) (t : List ℕ) → (x ≡ 10 → ⊥) → linesOf (x ∷ t) ≡ grow x (linesOf t)
 unfolding linesOf
 lines-byte x t d = rw (ne-eqb x 10 d, linesOf)
 

@@ -1,6 +1,6 @@
 -- A search whose list is bytes: what the search gives on the list's words, and the zeros' bytes from the front of the list.
 use mathlib.Core.List.{List}
-use Prim.Native.Nat.{ℕ, _/_}
+use Prim.Native.Nat.{ℕ}
 use lib.ListN.{length}
 use Rattle.refusals.specs.Refusal.{after}
 use Rattle.walks.specs.Calls.{pointsIn, zerosIn}

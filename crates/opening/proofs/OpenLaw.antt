@@ -1,15 +1,12 @@
--- The record of a checked table made of its parts, and the room for its coefficients.
+-- The record of a checked table made of its parts.
 use mathlib.Core.Path.{_≡_, ap, _∙_}
 use mathlib.Core.List.{List}
-use Prim.Native.Nat.{ℕ, _-_, _*_, _≤_, _<_}
-use native.Mathlib.Nat.{mul-le-mul-left, mul-le-mul-right}
-use native.Mathlib.Omega.{arith}
+use Prim.Native.Nat.{ℕ, _-_, _<_}
 use Rattle.trits.specs.declared.Vector.{Vector}
 use lib.ListN.{replicate}
 use Rattle.trits.specs.Trit.{ofTrits}
 use Rattle.gray.specs.Numbers.{pointDigit}
 use Rattle.polynomials.specs.Poly.{valueOf}
-use Rattle.tables.specs.Monomials.{countOf}
 use Rattle.tables.specs.Words.{Table, polyAt, coefficientsOf}
 use Rattle.tables.proofs.RoundLaw.{coefficients-table}
 use Rattle.given.specs.Given.{quadratic, cubic}
@@ -20,13 +17,6 @@ use Rattle.opening.proofs.SystemLaw.{value-here, slots-of}
 use Rattle.given.proofs.SlotLaw.{seconds-two}
 use Rattle.cubic_opening.specs.declared.Stood.{Stood}
 use Rattle.cubic_opening.specs.Parts.{At}
-
--- a table has 462 words at most
-pub count-le : (n : ℕ) → n ≤ 20 → 2 * countOf n ≤ 462
-unfolding countOf
-count-le n l =
-    let k : n - 1 ≤ 19 = omega arith in
-    omega (arith, mul-le-mul-right (n - 1) l, mul-le-mul-left 20 k)
 
 -- the record, from its parts
 pub opened-is : (n m : ℕ) (t : List ℕ) (p : ℕ) (v : Vector) (s : List Vector) (x : ℕ → ℕ)

@@ -1,24 +1,20 @@
 -- The start of a session: the head and what is left of the walk of a graph's table are its whole output.
 use mathlib.Core.Path.{_≡_, refl, sym, ap, ap₂, _∙_}
-use mathlib.Core.Bool.{Bool, true, false, not, true≢false}
+use mathlib.Core.Bool.{Bool, true, true≢false}
 use mathlib.Core.List.{List, _++_}
 use Prim.Native.Nat.{ℕ, _+_, _-_, _*_, _^_, _≤_}
 use native.Mathlib.Omega.{arith}
-use lib.Dec.{eqb, ltb}
 use lib.ListN.{length, take, drop}
 use lib.Seq.{take-at}
-use borrow.Author.Tests.{eq-eqb, le-ltb}
 use Rattle.refusals.specs.declared.Refusal.{Refusal}
-use Rattle.refusals.specs.declared.Refusal.the-variants as refusal
 use Rattle.refusals.specs.declared.Verdict.{Verdict}
 use Rattle.refusals.specs.declared.Verdict.the-variants as verdict
-use Rattle.refusals.specs.Refusal.{numberOf, refuse, after}
-use Rattle.refusals.proofs.RefusalLaw.{refuse-none, sized-next}
+use Rattle.refusals.specs.Refusal.{numberOf, after}
 use Rattle.refusals.specs.Limits.{Within}
 use Rattle.tables.specs.Monomials.{countOf}
-use Rattle.tables.specs.Words.{Table, legalFront, wordsOf, differencesOf}
-use Rattle.tables.specs.Answers.{long, paired, checkedOf, copyVerdict, differencesAfter}
-use Rattle.tables.proofs.WordLaw.{front-whole, words-table}
+use Rattle.tables.specs.Words.{wordsOf, differencesOf}
+use Rattle.tables.specs.Answers.{copyVerdict, differencesAfter}
+use Rattle.tables.proofs.WordLaw.{words-table}
 use Rattle.tables.proofs.RoundLaw.{differences-table}
 use Rattle.graphs.specs.Edges.{Ends}
 use Rattle.graphs.specs.Reading.{Outcome, graph, refused, outcomeOf}
@@ -29,64 +25,50 @@ use Rattle.reader.specs.Equations.{systemOf}
 use Rattle.reader.specs.Answers.{answerOf, wordsAfter}
 use Rattle.reader.proofs.AnswerLaw.{graph-is, refused-is}
 use Rattle.walks.specs.Calls.{zerosIn, costIn}
+use Rattle.given.specs.Given.{Given, quadratic, Checked}
+use Rattle.given.proofs.TableLaw.{checked-of, copy-into}
 use Rattle.opening.specs.declared.Opened.{Opened}
-use Rattle.opening.specs.Opened.{openedAt, noRecord, openVerdict, openOf}
-use Rattle.search.specs.Search.{trailOf}
-use Rattle.opening.proofs.VerdictLaw.{checked-next}
-use Rattle.demand.proofs.DemandLaw.{end-is, cost-all}
+use Rattle.opening.specs.Opened.{openedAt, noRecord, openOf}
+use Rattle.search.specs.Search.{trailBehind}
+use Rattle.search.proofs.TrailLaw.{end-is}
+use Rattle.opening.proofs.VerdictLaw.{verdict-done}
+use Rattle.demand.proofs.DemandLaw.{cost-all}
 use Rattle.planner.specs.declared.Session.{Session}
-use Rattle.texts.specs.Text.{refusalLine}
+use Rattle.texts.specs.Text.{refusalLine, lineIf}
 use Rattle.listing.specs.Listing.{layoutLines, headLine, totalsLine}
-use Rattle.planner.specs.Output.{layoutsIn, writtenFor, outputOf, toldFor, toldOf, leftFrom, leftIf, leftOf, toldWhen, Begun}
+use Rattle.planner.specs.Output.{layoutsIn, writtenFor, outputOf, toldFor, toldOf, ownTable, leftFrom, leftOf, toldWhen, Begun}
 use Rattle.planner.specs.Parts.{Refuses, Startable, Started}
 use Rattle.planner.proofs.GraphLaw.{zeros-layouts}
 use Rattle.planner.proofs.NextLaw.{append-none}
 
 -- ---- the table
-legal-front : (n m : ℕ) (t : List ℕ) → Table n m t → ltb (legalFront m t) (countOf n) ≡ false
-legal-front n m t g =
-    let e : legalFront m t ≡ countOf n = front-whole m (countOf n) t (g .size) .1 (g .legal) in
-    le-ltb (legalFront m t) (countOf n) (omega arith)
-
--- a legal table within the limits is checked
-table-checked : (n m : ℕ) (t : List ℕ) → Within n m → Table n m t → checkedOf n m t ≡ verdict.Done
-table-checked n m t w g =
-    sized-next n m (long n t (paired n m t verdict.Done)) w
-    ∙ refuse-none (not (eqb (length t) (2 * countOf n))) refusal.Length (paired n m t verdict.Done) (ap not (eq-eqb _ _ (g .size)))
-    ∙ refuse-none (ltb (legalFront m t) (countOf n)) (refusal.Pair (legalFront m t)) verdict.Done (legal-front n m t g)
-
 module _ (n m : ℕ) (words old : List ℕ) (h : Startable n m words old) where
   limits : Within n m
   limits = record { least = h .least; most = h .most; one = h .some; wide = h .few }
 
   copies : copyVerdict n m words old ≡ verdict.Done
-  copies =
-      sized-next n m (long n words (long n old (paired n m words verdict.Done))) limits
-      ∙ refuse-none (not (eqb (length words) (2 * countOf n))) refusal.Length (long n old (paired n m words verdict.Done)) (ap not (eq-eqb _ _ (h .legal .size)))
-      ∙ refuse-none (not (eqb (length old) (2 * countOf n))) refusal.Length (paired n m words verdict.Done) (ap not (eq-eqb _ _ (h .room)))
-      ∙ refuse-none (ltb (legalFront m words) (countOf n)) (refusal.Pair (legalFront m words)) verdict.Done (legal-front n m words (h .legal))
+  copies = copy-into n m words old limits (h .legal) (h .room)
 
   -- the differences are written
   pub table-is : (t : List ℕ) → t ≡ differencesAfter n m words old → t ≡ differencesOf n m words
   table-is t e = e ∙ ap (λ (v : Verdict). after v old (differencesOf n m words)) copies
 
   module _ (t : List ℕ) (e : t ≡ differencesOf n m words) where
-    checked : checkedOf n m t ≡ verdict.Done
-    checked = rw e (table-checked n m (differencesOf n m words) limits (differences-table n m words))
+    abbrev g : Given
+    g = quadratic n m t
+
+    checked : Checked g
+    checked = checked-of n m t limits (rw e (differences-table n m words))
 
     -- the walk is opened at place 0
-    opens : openVerdict n m t 0 ≡ verdict.Done
-    opens =
-        checked-next n m t (refuse (ltb (3 ^ n) 0) refusal.Range verdict.Done) checked
-        ∙ refuse-none (ltb (3 ^ n) 0) refusal.Range verdict.Done (le-ltb (3 ^ n) 0 (omega arith))
+    opened-is : (o : Opened) → o ≡ openOf g 0 → o .«record» ≡ openedAt g 0
+    opened-is o q =
+        ap (λ (o : Opened). o .«record») q ∙ ap (λ (v : Verdict). after v noRecord (openedAt g 0)) (verdict-done g 0 checked (omega arith))
 
-    opened-is : (o : Opened) → o ≡ openOf n m t 0 → o .«record» ≡ openedAt n m t 0
-    opened-is o q = ap (λ (o : Opened). o .«record») q ∙ ap (λ (v : Verdict). after v noRecord (openedAt n m t 0)) opens
-
-    pub started : (o : Opened) (b : List ℕ) (used : ℕ) → o ≡ openOf n m t 0 → used ≤ length b → take used b ≡ headLine n m
+    pub started : (o : Opened) (b : List ℕ) (used : ℕ) → o ≡ openOf g 0 → used ≤ length b → take used b ≡ headLine n m
         → Started n m words t b (record { n = n; m = m; «record» = o .«record»; points = 0; additions = 0; found = 0; used = used; «open» = true })
     unfolding costIn zerosIn
-    started o b used q l g =
+    started o b used q l d =
         record {
           going = refl;
           unknowns = refl;
@@ -95,7 +77,7 @@ module _ (n m : ℕ) (words old : List ℕ) (h : Startable n m words old) where
           differences = e;
           standing = record { checked = checked; within = omega arith; «record» = opened-is o q; additions = refl; found = refl };
           used = l;
-          bytes = g;
+          bytes = d;
         }
 
 -- ---- what was read
@@ -107,7 +89,7 @@ begun-refused input table b f number line r e q h =
     record {
       output = ap writtenFor (refused-is (outcomeOf input 462) f line (sym e)) ∙ ap (λ (x : ℕ). refusalLine x line) (sym q) ∙ sym (h .bytes)
           ∙ sym (append-none (take (r .used) b))
-          ∙ ap (λ (x : Bool). take (r .used) b ++ leftIf x (leftFrom (r .n) (trailOf (r .n) (r .m) (take (2 * countOf (r .n)) table)) (r .points))) (sym (h .over));
+          ∙ ap (λ (x : Bool). take (r .used) b ++ lineIf x (leftFrom (r .n) (trailBehind (ownTable (take (2 * countOf (r .n)) table) r)) (r .points))) (sym (h .over));
       told = ap toldFor (refused-is (outcomeOf input 462) f line (sym e)) ∙ ap (λ (x : ℕ). refusalLine x line) (sym q) ∙ sym (h .bytes)
           ∙ ap (λ (x : Bool). toldWhen x (take (r .used) b)) (sym (h .over));
       standing = λ o. absurd (true≢false (sym o ∙ h .over));
@@ -116,15 +98,15 @@ begun-refused input table b f number line r e q h =
 
 -- what is left of a graph's walk from place 0 on are its layouts and the totals
 left-graph : (input : List ℕ) (v : ℕ) (es : List Ends) → outcomeOf input 462 ≡ graph v es
-    → leftFrom v (trailOf v (length es) (differencesOf v (length es) (wordsOf v (length es) (systemOf es)))) 0
+    → leftFrom v (trailBehind (quadratic v (length es) (differencesOf v (length es) (wordsOf v (length es) (systemOf es))))) 0
     ≡ layoutLines v (layoutsIn v es 0 (3 ^ v)) ++ totalsLine (3 ^ v) (2 * (3 ^ v - 1) - v) (length (layoutsIn v es 0 (3 ^ v)))
 unfolding leftFrom
 left-graph input v es e =
-    let t = differencesOf v (length es) (wordsOf v (length es) (systemOf es)) in
-    let T = trailOf v (length es) t in
+    let g = quadratic v (length es) (differencesOf v (length es) (wordsOf v (length es) (systemOf es))) in
+    let T = trailBehind g in
     let none : (x : ℕ) → x - 0 ≡ x = λ x. omega arith in
-    ap (λ (x : ℕ). layoutLines v (zerosIn T 0 (x - 0)) ++ totalsLine x (costIn T 0 x) (length (zerosIn T 0 x))) (end-is v (length es) t)
-    ∙ ap₂ (λ (x : ℕ) (y : ℕ). layoutLines v (zerosIn T 0 x) ++ totalsLine (3 ^ v) y (length (zerosIn T 0 (3 ^ v)))) (none (3 ^ v)) (cost-all v (length es) t)
+    ap (λ (x : ℕ). layoutLines v (zerosIn T 0 (x - 0)) ++ totalsLine x (costIn T 0 x) (length (zerosIn T 0 x))) (end-is g)
+    ∙ ap₂ (λ (x : ℕ) (y : ℕ). layoutLines v (zerosIn T 0 x) ++ totalsLine (3 ^ v) y (length (zerosIn T 0 (3 ^ v)))) (none (3 ^ v)) (cost-all g refl)
     ∙ ap (λ (z : List ℕ). layoutLines v z ++ totalsLine (3 ^ v) (2 * (3 ^ v - 1) - v) (length z)) (zeros-layouts input v es e 0 (3 ^ v))
 
 module _ (input : List ℕ) (n m : ℕ) (e : answer.Graph n m ≡ answerOf (outcomeOf input 462)) where
@@ -174,13 +156,13 @@ module _ (input : List ℕ) (n m : ℕ) (e : answer.Graph n m ≡ answerOf (outc
     where
       whole : (es : List Ends) → outcomeOf input 462 ≡ graph n es → length es ≡ m → take (2 * countOf n) ws ≡ wordsOf n m (systemOf es)
           → take (2 * countOf (r .n)) (t ++ rest) ≡ t
-          → writtenFor (outcomeOf input 462) ≡ take (r .used) b ++ leftIf (r .open) (leftFrom (r .n) (trailOf (r .n) (r .m) (take (2 * countOf (r .n)) (t ++ rest))) (r .points))
+          → writtenFor (outcomeOf input 462) ≡ take (r .used) b ++ lineIf (r .open) (leftFrom (r .n) (trailBehind (ownTable (take (2 * countOf (r .n)) (t ++ rest)) r)) (r .points))
       whole es g k w a =
           ap writtenFor g
           ∙ ap₂ (λ (x y : List ℕ). x ++ y) (ap (headLine n) k ∙ sym (h .bytes))
           (sym (left-graph input n es g) ∙ sym (
-          ap (λ (x : Bool). leftIf x (leftFrom (r .n) (trailOf (r .n) (r .m) (take (2 * countOf (r .n)) (t ++ rest))) (r .points))) (h .going)
-          ∙ ap (λ (x : List ℕ). leftFrom (r .n) (trailOf (r .n) (r .m) x) (r .points)) (a ∙ h .differences ∙ ap (differencesOf n m) w)
-          ∙ ap₂ (λ (x y : ℕ). leftFrom x (trailOf x y (differencesOf n m (wordsOf n m (systemOf es)))) (r .points)) (h .unknowns) (h .equations)
-          ∙ ap (λ (x : ℕ). leftFrom n (trailOf n m (differencesOf n m (wordsOf n m (systemOf es)))) x) (h .first)
-          ∙ ap (λ (m : ℕ). leftFrom n (trailOf n m (differencesOf n m (wordsOf n m (systemOf es)))) 0) (sym k)))
+          ap (λ (x : Bool). lineIf x (leftFrom (r .n) (trailBehind (ownTable (take (2 * countOf (r .n)) (t ++ rest)) r)) (r .points))) (h .going)
+          ∙ ap (λ (x : List ℕ). leftFrom (r .n) (trailBehind (ownTable x r)) (r .points)) (a ∙ h .differences ∙ ap (differencesOf n m) w)
+          ∙ ap₂ (λ (x y : ℕ). leftFrom x (trailBehind (quadratic x y (differencesOf n m (wordsOf n m (systemOf es))))) (r .points)) (h .unknowns) (h .equations)
+          ∙ ap (λ (x : ℕ). leftFrom n (trailBehind (quadratic n m (differencesOf n m (wordsOf n m (systemOf es))))) x) (h .first)
+          ∙ ap (λ (m : ℕ). leftFrom n (trailBehind (quadratic n m (differencesOf n m (wordsOf n m (systemOf es))))) 0) (sym k)))

@@ -7,14 +7,15 @@ use native.Mathlib.Omega.{arith}
 use lib.ListN.{take}
 use Rattle.tables.specs.Monomials.{countOf}
 use Rattle.planner.specs.declared.Session.{Session}
-use Rattle.planner.specs.Output.{outputOf, Standing, leftFrom, leftIf, leftOf, Begun, Went, Calls, none, more}
-use Rattle.search.specs.Search.{trailOf}
-use Rattle.opening.proofs.OpenLaw.{within, power-small}
+use Rattle.planner.specs.Output.{outputOf, ownTable, Standing, leftFrom, leftOf, Begun, Went, Calls, none, more}
+use Rattle.search.specs.Search.{trailBehind}
+use Rattle.given.proofs.TableLaw.{within, power-small}
 use Rattle.planner.proofs.NextLaw.{append-none}
+use Rattle.texts.specs.Text.{lineIf}
 
 -- a session that stands has its unknowns within the limits
 pub unknowns : (t : List ℕ) (s : Session) → Standing t s → (1 ≤ s .n) × (s .n ≤ 20)
-unknowns t s h = let w = within (s .n) (s .m) t (h .checked) in (w .least, w .most)
+unknowns t s h = let w = within (ownTable t s) (h .checked) in (w .least, w .most)
 
 -- ---- it ends
 -- at most so many calls are left
@@ -36,12 +37,12 @@ calls-few true m p = omega arith
 calls-few false m p = omega arith
 
 pub calls-most : (t : List ℕ) (s : Session) → Standing t s → callsLeft (s .open) (3 ^ s .n - s .points) ≤ 3 ^ 20 + 1
-calls-most t s h = omega (arith, calls-few (s .open) (3 ^ s .n) (s .points), power-small (s .n) (s .m) t (h .checked))
+calls-most t s h = omega (arith, calls-few (s .open) (3 ^ s .n) (s .points), power-small (ownTable t s) (h .checked))
 
 -- ---- what is written
 pub left-none : (t : List ℕ) (s : Session) → s .open ≡ false → leftOf t s ≡ []
 unfolding leftOf
-left-none t s e = ap (λ (x : Bool). leftIf x (leftFrom (s .n) (trailOf (s .n) (s .m) t) (s .points))) e
+left-none t s e = ap (λ (x : Bool). lineIf x (leftFrom (s .n) (trailBehind (ownTable t s)) (s .points))) e
 
 calls-left : (t : List ℕ) (s : Session) (l : List ℕ) (r : Session) → Calls t s l r → leftOf t s ≡ l ++ leftOf t r
 calls-left t s l r none = refl

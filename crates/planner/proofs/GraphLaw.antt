@@ -22,9 +22,9 @@ use Rattle.reader.specs.Equations.{systemOf}
 use Rattle.reader.proofs.ColourLaw.{colours}
 use Rattle.walks.specs.Calls.{listed, zerosIn}
 use Rattle.walk.proofs.CallLaw.{zeros-all, all-zeros}
-use Rattle.opening.specs.Opened.{systemOf as behind}
-use Rattle.search.specs.Search.{trailOf}
-use Rattle.opening.proofs.SystemLaw.{value-agree}
+use Rattle.given.specs.Given.{Given, quadratic, behind, valuesOf}
+use Rattle.given.proofs.ValuesLaw.{value-agree}
+use Rattle.search.specs.Search.{trailBehind}
 use Rattle.planner.specs.Output.{differAt, layoutsIn}
 
 two : 1 < 3
@@ -63,34 +63,37 @@ module _ (text : List ℕ) (v : ℕ) (es : List Ends) (r : outcomeOf text 462 �
   abbrev table : List ℕ
   table = differencesOf v (length es) words
 
+  abbrev g : Given
+  g = quadratic v (length es) table
+
   -- equation e of the system behind the table is that of edge e, modulo 3
   agrees : (e : ℕ) → e < length es → Agree 3 v (behind v table e) (systemOf es e)
-  unfolding behind
   agrees e h =
       agree-trans (back-agree 3 two v (polyAt v table e) (tableOf 3 (polyAt v words e)) (differences-hold v (length es) words e h) 2 half-three)
       (agree-trans (back-of-table 3 two 2 half-three v (polyAt v words e)) (words-agree v (length es) (systemOf es) e h))
 
-  same-value : (e p : ℕ) → e < length es → valueOf (behind v table e) v (pointDigit 3 p) % 3 ≡ valueOf (systemOf es e) v (pointDigit 3 p) % 3
+  same-value : (e p : ℕ) → e < length es → valuesOf g e (pointDigit 3 p) % 3 ≡ valueOf (systemOf es e) v (pointDigit 3 p) % 3
+  unfolding valuesOf
   same-value e p h = value-agree 3 v (behind v table e) (systemOf es e) (agrees e h) (pointDigit 3 p) .same
 
   -- a place is a zero of the walk exactly if the ends of every edge differ there
-  pub zero-differs : (p : ℕ) → trailOf v (length es) table .zeroAt p ≡ differAt es p
-  unfolding trailOf
+  pub zero-differs : (p : ℕ) → trailBehind g .zeroAt p ≡ differAt es p
+  unfolding trailBehind
   zero-differs p =
       let c = colours text 462 v es r (pointDigit 3 p) (digit-lt p) in
       same-bool _ _
-      (λ z. all-differ es p (c .0 (λ e h. sym (same-value e p h) ∙ zeros-all (length es) (λ k. valueOf (behind v table k) v (pointDigit 3 p)) z e h)))
-      (λ d. all-zeros (length es) (λ k. valueOf (behind v table k) v (pointDigit 3 p)) (λ e h. same-value e p h ∙ c .1 (differ-all es p d) e h))
+      (λ z. all-differ es p (c .0 (λ e h. sym (same-value e p h) ∙ zeros-all (length es) (λ k. valuesOf g k (pointDigit 3 p)) z e h)))
+      (λ d. all-zeros (length es) (λ k. valuesOf g k (pointDigit 3 p)) (λ e h. same-value e p h ∙ c .1 (differ-all es p d) e h))
 
-  entry-is : (p : ℕ) → trailOf v (length es) table .entry p ≡ pointOf 3 v p
-  unfolding trailOf
+  entry-is : (p : ℕ) → trailBehind g .entry p ≡ pointOf 3 v p
+  unfolding trailBehind
   entry-is p = refl
 
   -- and what the walk lists are the layouts
-  pub zeros-layouts : (p k : ℕ) → zerosIn (trailOf v (length es) table) p k ≡ layoutsIn v es p k
+  pub zeros-layouts : (p k : ℕ) → zerosIn (trailBehind g) p k ≡ layoutsIn v es p k
   unfolding zerosIn layoutsIn
   zeros-layouts p zero = refl
   zeros-layouts p (suc k) =
-      ap (listed (trailOf v (length es) table .zeroAt p) (trailOf v (length es) table .entry p)) (zeros-layouts (suc p) k)
-      ∙ ap (λ (b : Bool). listed b (trailOf v (length es) table .entry p) (layoutsIn v es (suc p) k)) (zero-differs p)
+      ap (listed (trailBehind g .zeroAt p) (trailBehind g .entry p)) (zeros-layouts (suc p) k)
+      ∙ ap (λ (b : Bool). listed b (trailBehind g .entry p) (layoutsIn v es (suc p) k)) (zero-differs p)
       ∙ ap (λ (x : ℕ). listed (differAt es p) x (layoutsIn v es (suc p) k)) (entry-is p)

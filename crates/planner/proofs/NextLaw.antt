@@ -4,7 +4,7 @@ use mathlib.Core.Bool.{Bool, true, false, not, true≢false}
 use mathlib.Core.Logic.{by-cases}
 use mathlib.Core.List.{List, [], _∷_, _++_, append-assoc}
 use Prim.Native.Nat.{ℕ, _+_, _-_, _*_, _^_, _≤_, _<_}
-use native.Mathlib.Nat.{zero-add, min-le-left}
+use native.Mathlib.Nat.{zero-add}
 use native.Mathlib.Decide.{decLt}
 use native.Mathlib.Omega.{arith}
 use lib.Dec.{eqb}
@@ -16,7 +16,8 @@ use Rattle.refusals.specs.declared.Verdict.{Verdict}
 use Rattle.refusals.specs.declared.Verdict.the-variants as verdict
 use Rattle.refusals.specs.Refusal.{refuse, after}
 use Rattle.refusals.proofs.RefusalLaw.{refuse-none}
-use Rattle.tables.specs.Answers.{checkedOf}
+use Rattle.given.specs.Given.{Given, quadratic, Checked}
+use Rattle.given.proofs.TableLaw.{within, power-small}
 use Rattle.walks.specs.declared.Stop.{Stop}
 use Rattle.walks.specs.declared.Stop.the-variants.{Ended, Full, Spent}
 use Rattle.walks.specs.declared.Report.{Report}
@@ -27,13 +28,14 @@ use Rattle.search.specs.declared.Answer.{Answer}
 use Rattle.search.specs.declared.Answer.the-variants.{Ran, Refused}
 use Rattle.search.specs.declared.Outcome.{Outcome}
 use Rattle.opening.specs.Opened.{openedAt}
-use Rattle.search.specs.Search.{trailOf, searchVerdict, ranOf, outcomeFrom, outcomeOf, listOf}
-use Rattle.opening.proofs.OpenLaw.{within, power-small}
+use Rattle.search.specs.Search.{trailBehind, searchVerdict, ranOf, outcomeFrom, outcomeOf, listLeft}
 use Rattle.search.proofs.VerdictLaw.{asked, verdict-opened}
+use Rattle.search.proofs.TrailLaw.{end-is, cost-le, place-opened}
 use Rattle.planner.specs.declared.Session.{Session}
 use Rattle.listing.specs.Listing.{layoutLine, layoutLines, totalsLine}
-use Rattle.planner.specs.Output.{Standing, leftFrom, leftIf, leftOf, Went, Stepped}
+use Rattle.planner.specs.Output.{ownTable, Standing, leftFrom, leftOf, Went, Stepped}
 use Rattle.planner.specs.Parts.{isEnded, Tellable, Told}
+use Rattle.texts.specs.Text.{lineIf}
 
 -- ---- lines
 pub lines-append : (n : ℕ) (a b : List ℕ) → layoutLines n (a ++ b) ≡ layoutLines n a ++ layoutLines n b
@@ -74,22 +76,21 @@ asked-done b l h j =
     refuse-none (eqb b 0) refusal.Budget (refuse (eqb (length l) 0) refusal.List verdict.Done) (ne-eqb b 0 (λ e. omega arith))
     ∙ refuse-none (eqb (length l) 0) refusal.List verdict.Done (ne-eqb (length l) 0 (λ e. omega arith))
 
-module _ (n m : ℕ) (t : List ℕ) (p b : ℕ) (l : List ℕ) (r : Record) (ok : checkedOf n m t ≡ verdict.Done) (h : p ≤ 3 ^ n) (some : 0 < b) (room : 0 < length l)
-    (at : r ≡ openedAt n m t p) where
+module _ (g : Given) (p b : ℕ) (l : List ℕ) (r : Record) (ok : Checked g) (h : p ≤ 3 ^ g .n) (some : 0 < b) (room : 0 < length l)
+    (at : r ≡ openedAt g p) where
   place-is : r .place .0 ≡ p
-  unfolding openedAt
-  place-is = ap (λ (r : Record). r .place .0) at
+  place-is = ap (λ (r : Record). r .place .0) at ∙ place-opened g p
 
-  passes : searchVerdict n m t r b l ≡ verdict.Done
-  passes = ap (λ (r : Record). searchVerdict n m t r b l) at ∙ verdict-opened n m t p b l ok h ∙ asked-done b l some room
+  passes : searchVerdict g r b l ≡ verdict.Done
+  passes = ap (λ (r : Record). searchVerdict g r b l) at ∙ verdict-opened g p b l ok h ∙ asked-done b l some room
 
-  call-ran : (o : Outcome) → o ≡ outcomeOf n m t r b l → o ≡ ranOf n m t p b (length l)
+  call-ran : (o : Outcome) → o ≡ outcomeOf g r b l → o ≡ ranOf g p b (length l)
   call-ran o e =
-      e ∙ ap (λ (v : Verdict). outcomeFrom v r (ranOf n m t (r .place .0) b (length l))) passes ∙ ap (λ (q : ℕ). ranOf n m t q b (length l)) place-is
+      e ∙ ap (λ (v : Verdict). outcomeFrom v r (ranOf g (r .place .0) b (length l))) passes ∙ ap (λ (q : ℕ). ranOf g q b (length l)) place-is
 
-  call-list : (k : List ℕ) → k ≡ listOf n m t r b l → k ≡ listAfter (trailOf n m t) b p l
+  call-list : (k : List ℕ) → k ≡ listLeft g r b l → k ≡ listAfter (trailBehind g) b p l
   call-list k e =
-      e ∙ ap (λ (v : Verdict). after v l (listAfter (trailOf n m t) b (r .place .0) l)) passes ∙ ap (λ (q : ℕ). listAfter (trailOf n m t) b q l) place-is
+      e ∙ ap (λ (v : Verdict). after v l (listAfter (trailBehind g) b (r .place .0) l)) passes ∙ ap (λ (q : ℕ). listAfter (trailBehind g) b q l) place-is
 
 same-ran : (a : Answer) (u w : Report) → a ≡ Ran u → a ≡ Ran w → w ≡ u
 same-ran a u w e f = cc
@@ -103,8 +104,11 @@ ended-true (Full x) e = absurd (true≢false (sym e))
 ended-true (Spent x) e = absurd (true≢false (sym e))
 
 module _ (t : List ℕ) (s : Session) (st : Standing t s) (b : ℕ) (l : List ℕ) (some : 0 < b) (room : 0 < length l) where
+  abbrev g : Given
+  g = ownTable t s
+
   abbrev T : Trail
-  T = trailOf (s .n) (s .m) t
+  T = trailBehind g
 
   abbrev p : ℕ
   p = s .points
@@ -112,17 +116,9 @@ module _ (t : List ℕ) (s : Session) (st : Standing t s) (b : ℕ) (l : List �
   pub k : ℕ
   k = pointsIn T b (length l) p
 
-  end-is : T .end ≡ 3 ^ s .n
-  unfolding trailOf
-  end-is = refl
-
   stays : p + k ≤ T .end
   unfolding k
-  stays = points-end T b (length l) p (omega (arith, st .within, end-is))
-
-  cost-two : (q : ℕ) → T .cost q ≤ 2
-  unfolding trailOf
-  cost-two q = min-le-left 2 _
+  stays = points-end T b (length l) p (omega (arith, st .within, end-is g))
 
   -- what the call answers, from what the search says
   pub record Report-is (w : Report) (o : Record) (z : List ℕ) : Type 0 where
@@ -130,13 +126,13 @@ module _ (t : List ℕ) (s : Session) (st : Standing t s) (b : ℕ) (l : List �
     pub additions : w .additions ≡ costIn T p k
     pub found : w .found ≡ length (zerosIn T p k)
     pub ended : (w .stop ≡ Ended → p + k ≡ T .end) × (p + k ≡ T .end → w .stop ≡ Ended)
-    pub «record» : o ≡ openedAt (s .n) (s .m) t (p + k)
+    pub «record» : o ≡ openedAt g (p + k)
     pub listed : take (w .found) z ≡ zerosIn T p k
     pub fits : w .found ≤ length z
     pub long : length z ≡ length l
     pub left : z ≡ listAfter T b p l
 
-  report-is : (w : Report) (o : Record) (z : List ℕ) → w ≡ reportOf T b (length l) p → o ≡ openedAt (s .n) (s .m) t (p + k) → z ≡ listAfter T b p l → Report-is w o z
+  report-is : (w : Report) (o : Record) (z : List ℕ) → w ≡ reportOf T b (length l) p → o ≡ openedAt g (p + k) → z ≡ listAfter T b p l → Report-is w o z
   unfolding k reportOf
   report-is w o z ew eo ez =
       record {
@@ -155,19 +151,19 @@ module _ (t : List ℕ) (s : Session) (st : Standing t s) (b : ℕ) (l : List �
       }
 
   -- no call is refused
-  pub not-refused : (o : Outcome) (f : Refusal) → o ≡ outcomeOf (s .n) (s .m) t (s .«record») b l → o .answer ≡ Refused f → ⊥
-  not-refused o f e g =
+  pub not-refused : (o : Outcome) (f : Refusal) → o ≡ outcomeOf g (s .«record») b l → o .answer ≡ Refused f → ⊥
+  not-refused o f e a =
       ran-refused (o .answer) (reportOf T b (length l) p) f
-      (ap (λ (o : Outcome). o .answer) (call-ran (s .n) (s .m) t p b l (s .«record») (st .checked) (st .within) some room (st .«record») o e)) g
+      (ap (λ (o : Outcome). o .answer) (call-ran g p b l (s .«record») (st .checked) (st .within) some room (st .«record») o e)) a
 
-  pub answered : (o : Outcome) (w : Report) (z : List ℕ) → o ≡ outcomeOf (s .n) (s .m) t (s .«record») b l → z ≡ listOf (s .n) (s .m) t (s .«record») b l
+  pub answered : (o : Outcome) (w : Report) (z : List ℕ) → o ≡ outcomeOf g (s .«record») b l → z ≡ listLeft g (s .«record») b l
       → o .answer ≡ Ran w → Report-is w (o .«record») z
   unfolding k
-  answered o w z eo ez g =
-      let e = call-ran (s .n) (s .m) t p b l (s .«record») (st .checked) (st .within) some room (st .«record») o eo in
-      report-is w (o .«record») z (same-ran (o .answer) (reportOf T b (length l) p) w (ap (λ (o : Outcome). o .answer) e) g)
+  answered o w z eo ez a =
+      let e = call-ran g p b l (s .«record») (st .checked) (st .within) some room (st .«record») o eo in
+      report-is w (o .«record») z (same-ran (o .answer) (reportOf T b (length l) p) w (ap (λ (o : Outcome). o .answer) e) a)
       (ap (λ (o : Outcome). o .«record») e)
-      (call-list (s .n) (s .m) t p b l (s .«record») (st .checked) (st .within) some room (st .«record») z ez)
+      (call-list g p b l (s .«record») (st .checked) (st .within) some room (st .«record») z ez)
 
   module _ (w : Report) (o : Record) (z : List ℕ) (i : Report-is w o z) where
     additions-next : s .additions + w .additions ≡ costIn T 0 (p + k)
@@ -181,12 +177,12 @@ module _ (t : List ℕ) (s : Session) (st : Standing t s) (b : ℕ) (l : List �
     -- the sums fit
     pub tellable : (text : List ℕ) → 63 * length l + 92 ≤ length text → Tellable s w (take (w .found) z) text
     tellable text h =
-        let c = power-small (s .n) (s .m) t (st .checked) in
+        let c = power-small g (st .checked) in
         record {
-          most = within (s .n) (s .m) t (st .checked) .most;
-          points = omega (arith, i .points, stays, end-is, c);
-          additions = omega (arith, additions-next, cost-most T 2 cost-two 0 (p + k), stays, end-is, c);
-          found = omega (arith, found-next, zeros-length T 0 (p + k), stays, end-is, c);
+          most = within g (st .checked) .most;
+          points = omega (arith, i .points, stays, end-is g, c);
+          additions = omega (arith, additions-next, cost-most T 2 (cost-le g) 0 (p + k), stays, end-is g, c);
+          found = omega (arith, found-next, zeros-length T 0 (p + k), stays, end-is g, c);
           room = omega (arith, length-take (w .found) z, i .long);
         }
 
@@ -199,18 +195,18 @@ module _ (t : List ℕ) (s : Session) (st : Standing t s) (b : ℕ) (l : List �
       standing =
           record {
             checked = rw (h .unknowns, h .equations) (st .checked);
-            within = rw (h .unknowns, points-are, ← end-is) stays;
+            within = rw (h .unknowns, points-are, ← end-is g) stays;
             «record» = rw (h .unknowns, h .equations, points-are) (h .«record» ∙ i .«record»);
             additions = rw (h .unknowns, h .equations, points-are) (h .additions ∙ additions-next);
             found = rw (h .unknowns, h .equations, points-are) (h .found ∙ found-next);
           }
 
-      left-next : (x : Bool) → r .open ≡ x → leftOf t r ≡ leftIf x (leftFrom (s .n) T (p + k))
+      left-next : (x : Bool) → r .open ≡ x → leftOf t r ≡ lineIf x (leftFrom (s .n) T (p + k))
       unfolding leftOf
       left-next x e =
-          ap (λ (y : Bool). leftIf y (leftFrom (r .n) (trailOf (r .n) (r .m) t) (r .points))) e
-          ∙ ap₂ (λ (n m : ℕ). leftIf x (leftFrom n (trailOf n m t) (r .points))) (h .unknowns) (h .equations)
-          ∙ ap (λ (q : ℕ). leftIf x (leftFrom (s .n) T q)) points-are
+          ap (λ (y : Bool). lineIf y (leftFrom (r .n) (trailBehind (ownTable t r)) (r .points))) e
+          ∙ ap₂ (λ (n m : ℕ). lineIf x (leftFrom n (trailBehind (quadratic n m t)) (r .points))) (h .unknowns) (h .equations)
+          ∙ ap (λ (q : ℕ). lineIf x (leftFrom (s .n) T q)) points-are
 
       lines : List ℕ
       lines = layoutLines (s .n) (zerosIn T p k)
@@ -220,7 +216,7 @@ module _ (t : List ℕ) (s : Session) (st : Standing t s) (b : ℕ) (l : List �
       split true e =
           let j : p + k ≡ T .end = i .ended .0 (ended-true (w .stop) e) in
           left-split (s .n) T p k stays ∙ ap (λ (y : List ℕ). lines ++ y) (left-end (s .n) T (p + k) j ∙ last)
-          ∙ sym (h .bytes ∙ ap₂ (λ (a : List ℕ) (x : Bool). layoutLines (s .n) a ++ leftIf x (totalsLine (r .points) (r .additions) (r .found))) (i .listed) e)
+          ∙ sym (h .bytes ∙ ap₂ (λ (a : List ℕ) (x : Bool). layoutLines (s .n) a ++ lineIf x (totalsLine (r .points) (r .additions) (r .found))) (i .listed) e)
           ∙ sym (append-none (take (r .used) text))
           ∙ ap (λ (y : List ℕ). take (r .used) text ++ y) (sym (left-next false (h .going ∙ ap not e)))
         where
@@ -231,7 +227,7 @@ module _ (t : List ℕ) (s : Session) (st : Standing t s) (b : ℕ) (l : List �
       split false e =
           left-split (s .n) T p k stays
           ∙ ap (λ (y : List ℕ). y ++ leftFrom (s .n) T (p + k))
-          (sym (h .bytes ∙ ap₂ (λ (a : List ℕ) (x : Bool). layoutLines (s .n) a ++ leftIf x (totalsLine (r .points) (r .additions) (r .found))) (i .listed) e ∙ append-none lines))
+          (sym (h .bytes ∙ ap₂ (λ (a : List ℕ) (x : Bool). layoutLines (s .n) a ++ lineIf x (totalsLine (r .points) (r .additions) (r .found))) (i .listed) e ∙ append-none lines))
           ∙ ap (λ (y : List ℕ). take (r .used) text ++ y) (sym (left-next true (h .going ∙ ap not e)))
 
       further : r .open ≡ true → s .points < r .points
@@ -247,7 +243,7 @@ module _ (t : List ℕ) (s : Session) (st : Standing t s) (b : ℕ) (l : List �
       unfolding leftOf
       went e =
           record {
-            output = ap (λ (x : Bool). leftIf x (leftFrom (s .n) T p)) e ∙ split (isEnded (w .stop)) refl;
+            output = ap (λ (x : Bool). lineIf x (leftFrom (s .n) T p)) e ∙ split (isEnded (w .stop)) refl;
             standing = standing;
             unknowns = h .unknowns;
             equations = h .equations;
@@ -256,10 +252,10 @@ module _ (t : List ℕ) (s : Session) (st : Standing t s) (b : ℕ) (l : List �
           }
 
       ended-at : (x : Bool) → isEnded (w .stop) ≡ x → x ≡ eqb (r .points) (3 ^ s .n)
-      ended-at true e = sym (eq-eqb (r .points) (3 ^ s .n) (points-are ∙ i .ended .0 (ended-true (w .stop) e) ∙ end-is))
+      ended-at true e = sym (eq-eqb (r .points) (3 ^ s .n) (points-are ∙ i .ended .0 (ended-true (w .stop) e) ∙ end-is g))
       ended-at false e =
           sym (ne-eqb (r .points) (3 ^ s .n)
-          (λ j. true≢false (sym (ap isEnded (i .ended .1 (sym points-are ∙ j ∙ sym end-is))) ∙ e)))
+          (λ j. true≢false (sym (ap isEnded (i .ended .1 (sym points-are ∙ j ∙ sym (end-is g)))) ∙ e)))
 
       pub stepped : Stepped t s b l z old text r
       unfolding k

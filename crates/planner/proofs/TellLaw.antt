@@ -9,9 +9,8 @@ use lib.Seq.{drop-drop}
 use Rattle.walks.specs.declared.Report.{Report}
 use Rattle.opening.specs.declared.Record.{Record}
 use Rattle.planner.specs.declared.Session.{Session}
-use Rattle.texts.specs.Text.{Put}
+use Rattle.texts.specs.Text.{Put, lineIf}
 use Rattle.listing.specs.Listing.{layoutLines, totalsLine}
-use Rattle.planner.specs.Output.{leftIf}
 use Rattle.planner.specs.Parts.{isEnded, Tellable, Told}
 use Rattle.planner.proofs.NextLaw.{append-none}
 
@@ -46,7 +45,7 @@ module _ (s : Session) (o : Record) (w : Report) (l old : List ℕ) (h : Tellabl
         size = put .size;
         rest = put .rest;
         bytes = put .front ∙ sym (append-none (layoutLines (s .n) l))
-            ∙ ap (λ (x : Bool). layoutLines (s .n) l ++ leftIf x (totalsLine (s .points + w .points) (s .additions + w .additions) (s .found + w .found))) (sym z);
+            ∙ ap (λ (x : Bool). layoutLines (s .n) l ++ lineIf x (totalsLine (s .points + w .points) (s .additions + w .additions) (s .found + w .found))) (sym z);
       }
 
   pub told-over : (new : List ℕ) (end : ℕ) → Put mid at (totalsLine (s .points + w .points) (s .additions + w .additions) (s .found + w .found)) new end
@@ -66,7 +65,7 @@ module _ (s : Session) (o : Record) (w : Report) (l old : List ℕ) (h : Tellabl
         rest = last .rest ∙ farther;
         bytes = last .front
             ∙ ap (λ (x : List ℕ). x ++ totalsLine (s .points + w .points) (s .additions + w .additions) (s .found + w .found)) (put .front)
-            ∙ ap (λ (x : Bool). layoutLines (s .n) l ++ leftIf x (totalsLine (s .points + w .points) (s .additions + w .additions) (s .found + w .found))) (sym z);
+            ∙ ap (λ (x : Bool). layoutLines (s .n) l ++ lineIf x (totalsLine (s .points + w .points) (s .additions + w .additions) (s .found + w .found))) (sym z);
       }
     where
       farther : drop end mid ≡ drop end old

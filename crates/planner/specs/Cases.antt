@@ -2,7 +2,8 @@
 use mathlib.Core.Path.{_≡_}
 use mathlib.Core.List.{List, [], _∷_, _++_}
 use Prim.Native.Nat.{ℕ}
-use Rattle.planner.specs.Output.{outputOf, endedLine, toldOf}
+use Rattle.planner.specs.Output.{outputOf, toldOf}
+use Rattle.texts.specs.Text.{endedLine}
 
 -- "p edge 2 1"
 abbrev pub problem : List ℕ

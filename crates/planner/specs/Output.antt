@@ -5,18 +5,17 @@ use mathlib.Core.List.{List, [], _∷_, _++_}
 use Prim.Native.Nat.{ℕ, zero, suc, _+_, _-_, _*_, _^_, _≤_, _<_}
 use lib.Dec.{eqb}
 use lib.ListN.{length, take, drop}
-use Rattle.refusals.specs.declared.Verdict.the-variants.{Done}
 use Rattle.refusals.specs.Refusal.{numberOf}
 use Rattle.gray.specs.Numbers.{pointDigit, pointOf}
 use Rattle.tables.specs.Monomials.{countOf}
-use Rattle.tables.specs.Answers.{checkedOf}
 use Rattle.graphs.specs.Edges.{Ends}
 use Rattle.graphs.specs.Reading.{wordsLeast, Outcome, graph, refused, outcomeOf}
 use Rattle.walks.specs.Calls.{Trail, listed, zerosIn, costIn, pointsIn, listAfter}
-use Rattle.search.specs.Search.{trailOf}
+use Rattle.given.specs.Given.{Given, quadratic, Checked}
+use Rattle.search.specs.Search.{trailBehind}
 use Rattle.opening.specs.Opened.{openedAt}
 use Rattle.planner.specs.declared.Session.{Session}
-use Rattle.texts.specs.Text.{refusalLine}
+use Rattle.texts.specs.Text.{refusalLine, lineIf, endedLine}
 use Rattle.listing.specs.Listing.{layoutLines, headLine, totalsLine}
 
 -- ---- for planners
@@ -40,10 +39,6 @@ writtenFor (refused r k) = refusalLine (numberOf r) k
 unfoldable pub outputOf : List ℕ → List ℕ
 outputOf text = writtenFor (outcomeOf text wordsLeast)
 
--- "ended"
-abbrev pub endedLine : List ℕ
-endedLine = 101 ∷ 110 ∷ 100 ∷ 101 ∷ 100 ∷ 10 ∷ []
-
 -- what is told beside the output once all of it was written: that the search ended, or the refusal
 abbrev pub toldFor : Outcome → List ℕ
 toldFor (graph v es) = endedLine
@@ -53,13 +48,17 @@ unfoldable pub toldOf : List ℕ → List ℕ
 toldOf text = toldFor (outcomeOf text wordsLeast)
 
 -- ---- between two calls
+-- the table of a session, with what is told beside it
+abbrev pub ownTable : List ℕ → Session → Given
+ownTable t s = quadratic (s .n) (s .m) t
+
 -- a session at place p of a checked table: its record and its counts are those of the places before p
 pub record Standing (t : List ℕ) (s : Session) : Type 0 where
-  pub checked : checkedOf (s .n) (s .m) t ≡ Done
+  pub checked : Checked (ownTable t s)
   pub within : s .points ≤ 3 ^ s .n
-  pub «record» : s .«record» ≡ openedAt (s .n) (s .m) t (s .points)
-  pub additions : s .additions ≡ costIn (trailOf (s .n) (s .m) t) 0 (s .points)
-  pub found : s .found ≡ length (zerosIn (trailOf (s .n) (s .m) t) 0 (s .points))
+  pub «record» : s .«record» ≡ openedAt (ownTable t s) (s .points)
+  pub additions : s .additions ≡ costIn (trailBehind (ownTable t s)) 0 (s .points)
+  pub found : s .found ≡ length (zerosIn (trailBehind (ownTable t s)) 0 (s .points))
 
 -- what is left to write of the walk T of n unknowns from place p on
 unfoldable pub leftFrom : ℕ → Trail → ℕ → List ℕ
@@ -67,12 +66,8 @@ leftFrom n T p =
     layoutLines n (zerosIn T p (T .end - p)) ++ totalsLine (T .end) (costIn T 0 (T .end)) (length (zerosIn T 0 (T .end)))
 
 -- what is left to write: nothing once the session is over
-abbrev pub leftIf : Bool → List ℕ → List ℕ
-leftIf true l = l
-leftIf false l = []
-
 unfoldable pub leftOf : List ℕ → Session → List ℕ
-leftOf t s = leftIf (s .open) (leftFrom (s .n) (trailOf (s .n) (s .m) t) (s .points))
+leftOf t s = lineIf (s .open) (leftFrom (s .n) (trailBehind (ownTable t s)) (s .points))
 
 -- what is told of a walk that goes on is that it ended; otherwise it is what was written
 abbrev pub toldWhen : Bool → List ℕ → List ℕ
@@ -98,8 +93,8 @@ pub record Went (t : List ℕ) (s : Session) (b : List ℕ) (r : Session) : Type
 -- and exactly: the points examined are those of a call with this budget and a list so long, the list is as the call leaves it, the session
 -- is over exactly at the end of the walk, and the bytes of the text from `used` on are as they were
 pub record Stepped (t : List ℕ) (s : Session) (budget : ℕ) (l after old new : List ℕ) (r : Session) : Type 0 where
-  pub points : r .points ≡ s .points + pointsIn (trailOf (s .n) (s .m) t) budget (length l) (s .points)
-  pub list : after ≡ listAfter (trailOf (s .n) (s .m) t) budget (s .points) l
+  pub points : r .points ≡ s .points + pointsIn (trailBehind (ownTable t s)) budget (length l) (s .points)
+  pub list : after ≡ listAfter (trailBehind (ownTable t s)) budget (s .points) l
   pub over : r .open ≡ not (eqb (r .points) (3 ^ s .n))
   pub size : length new ≡ length old
   pub rest : drop (r .used) new ≡ drop (r .used) old

@@ -12,9 +12,9 @@ use Rattle.walks.specs.declared.Stop.the-variants.{Ended, Full, Spent}
 use Rattle.walks.specs.declared.Report.{Report}
 use Rattle.opening.specs.declared.Record.{Record}
 use Rattle.planner.specs.declared.Session.{Session}
-use Rattle.texts.specs.Text.{refusalLine}
+use Rattle.texts.specs.Text.{refusalLine, lineIf}
 use Rattle.listing.specs.Listing.{layoutLines, headLine, totalsLine, longestLayout, longestTotals}
-use Rattle.planner.specs.Output.{Standing, leftIf}
+use Rattle.planner.specs.Output.{Standing}
 
 -- the bytes b that are to be written hold a refusal, and the session is over
 pub record Refuses (number line : ℕ) (b : List ℕ) (r : Session) : Type 0 where
@@ -68,4 +68,4 @@ pub record Told (s : Session) (o : Record) (w : Report) (l old b : List ℕ) (r 
   pub used : r .used ≤ length b
   pub size : length b ≡ length old
   pub rest : drop (r .used) b ≡ drop (r .used) old
-  pub bytes : take (r .used) b ≡ layoutLines (s .n) l ++ leftIf (isEnded (w .stop)) (totalsLine (r .points) (r .additions) (r .found))
+  pub bytes : take (r .used) b ≡ layoutLines (s .n) l ++ lineIf (isEnded (w .stop)) (totalsLine (r .points) (r .additions) (r .found))

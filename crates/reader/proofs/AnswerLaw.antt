@@ -19,20 +19,6 @@ use Rattle.reader.specs.declared.ReadAnswer.the-variants as answer
 use Rattle.reader.specs.Equations.{systemOf}
 use Rattle.reader.specs.Answers.{answerOf, wordsAfter, readTold, outcomeTold, toldWords, callOf, callCode, toldAfter}
 
--- ---- the outcome, test by test
-module _ (t : List ℕ) (w : ℕ) where
-  pub outcome-long : textMost < length t → outcomeOf t w ≡ refused why.Long 0
-  unfolding outcomeOf
-  outcome-long h = rw (lt-ltb textMost (length t) h)
-
-  pub outcome-words : length t ≤ textMost → w < wordsLeast → outcomeOf t w ≡ refused why.Length 0
-  unfolding outcomeOf
-  outcome-words h l = rw (le-ltb textMost (length t) h, lt-ltb w wordsLeast l)
-
-  pub outcome-lines : length t ≤ textMost → wordsLeast ≤ w → outcomeOf t w ≡ readLines 1 start (linesOf t)
-  unfolding outcomeOf
-  outcome-lines h l = rw (le-ltb textMost (length t) h, le-ltb w wordsLeast l)
-
 -- ---- answers
 -- an answer tells document 01's number and values
 told : (o : Outcome) → readTold (answerOf o) ≡ outcomeTold o

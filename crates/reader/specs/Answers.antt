@@ -8,7 +8,7 @@ use Rattle.refusals.specs.declared.Refusal.the-variants as why
 use Rattle.refusals.specs.Refusal.{numberOf}
 use Rattle.tables.specs.Monomials.{countOf}
 use Rattle.tables.specs.Words.{wordsOf}
-use Rattle.graphs.specs.Reading.{textMost, Outcome, graph, refused, refuseAt, outcomeOf}
+use Rattle.graphs.specs.Reading.{textMost, Outcome, graph, refused, numberAt, refuseAt, outcomeOf}
 use Rattle.reader.specs.declared.ReadAnswer.{ReadAnswer}
 use Rattle.reader.specs.declared.ReadAnswer.the-variants as answer
 use Rattle.reader.specs.Equations.{systemOf}
@@ -38,7 +38,7 @@ callOf t w d = refuseAt (ltb textMost (length t)) why.Long 0 (refuseAt (not (eqb
 -- what the call gives: 0, or the refusal's number plus 256 times its line
 abbrev pub callCode : Outcome → ℕ
 callCode (graph v es) = 0
-callCode (refused r k) = numberOf r + 256 * k
+callCode (refused r k) = numberAt r k
 
 -- the words told, after: n and m, or on a refusal as they were
 abbrev pub toldAfter : Outcome → List ℕ → List ℕ

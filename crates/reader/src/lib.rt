@@ -2,6 +2,7 @@
 // Contracts cite graphs/specs/Reading (what a text means), specs/Equations and specs/Answers.
 use crate::equations::write;
 use graphs::TEXT_MOST;
+use graphs::numbered;
 use graphs::read_lines;
 use refusals::Refusal;
 use refusals::Verdict;
@@ -58,15 +59,6 @@ pub fn read(text: &[u8], words: &mut [u64]) -> ReadAnswer
             ReadAnswer::Graph { n, m }
         }
     }
-}
-
-// A refusal and its line in one number.
-fn numbered(why: Refusal, line: u64) -> u64
-    requires { ⌜ line ≤ 1 + textMost ⌝ }
-    ensures { λ c. ⌜ c ≡ numberOf why + 256 * line ⌝ }
-{
-    let number = refusals::number(why);
-    number + 256 * line
 }
 
 // The same for callers that are told by words: 0, and n and m in the two words told; or the refusal's number plus 256 times its line,

@@ -5,13 +5,14 @@ use lib.ListN.{length}
 use Rattle.refusals.specs.declared.Verdict.{Verdict}
 use Rattle.refusals.specs.Limits as limits
 use Rattle.refusals.specs.Refusal.{after}
+use Rattle.given.specs.Given.{Given}
 use Rattle.opening.specs.Opened.{openedAt, openVerdict}
 use Rattle.lent.specs.Lent.{room}
 use Rattle.wire.specs.Wire.{recordWords}
 
 -- opening at a place, into 45 words
-abbrev pub openCall : ℕ → ℕ → List ℕ → ℕ → List ℕ → Verdict
-openCall n m t p rec = room n m (length rec) limits.recordWords (openVerdict n m t p)
+abbrev pub openCall : Given → ℕ → List ℕ → Verdict
+openCall g p rec = room (g .n) (g .m) (length rec) limits.recordWords (openVerdict g p)
 
-abbrev pub openAfter : ℕ → ℕ → List ℕ → ℕ → List ℕ → List ℕ
-openAfter n m t p rec = after (openCall n m t p rec) rec (recordWords (openedAt n m t p))
+abbrev pub openAfter : Given → ℕ → List ℕ → List ℕ
+openAfter g p rec = after (openCall g p rec) rec (recordWords (openedAt g p))

@@ -3,12 +3,13 @@ use gray::Place;
 use refusals::RECORD_WORDS;
 ghost use mathlib.Core.Path.{_≡_};
 ghost use Rattle.refusals.specs.Refusal.{codeOf};
+ghost use Rattle.given.specs.Given.{quadratic};
 ghost use Rattle.record_calls.specs.Call.{openCall, openAfter};
 
 // The record of a table at a place, as 45 words.
 pub fn open(n: u64, m: u64, table: &[u64], place: u64, record: &mut [u64]) -> u64
-    ensures { λ c. ⌜ (c ≡ codeOf (openCall n m (now (table .entry)) place (now («record» .entry))))
-        × (now («record» .exit) ≡ openAfter n m (now (table .entry)) place (now («record» .entry))) ⌝ }
+    ensures { λ c. ⌜ (c ≡ codeOf (openCall (quadratic n m (now (table .entry))) place (now («record» .entry))))
+        × (now («record» .exit) ≡ openAfter (quadratic n m (now (table .entry))) place (now («record» .entry))) ⌝ }
 {
     let v = lent::room_for(n, m, record.len(), RECORD_WORDS);
     let refused = refusals::code(v);

@@ -31,6 +31,7 @@ number-pos refusal.Vertex e = omega (arith, e)
 number-pos refusal.Count e = omega (arith, e)
 number-pos refusal.Long e = omega (arith, e)
 number-pos refusal.Edges e = omega (arith, e)
+number-pos refusal.Room e = omega (arith, e)
 
 -- and so the number of a verdict says whether anything was refused
 pub code-zero : (v : Verdict) → codeOf v ≡ 0 → v ≡ Done

@@ -3,7 +3,7 @@ use mathlib.Core.Bool.{Bool}
 use Prim.Native.Nat.{ℕ, _+_, _*_}
 use lib.Dec.{ltb}
 use Rattle.refusals.specs.declared.Refusal.{Refusal}
-use Rattle.refusals.specs.declared.Refusal.the-variants.{Size, Length, Pair, Range, Record, Budget, List, Shape, Order, Limits, Vertex, Count, Long, Edges}
+use Rattle.refusals.specs.declared.Refusal.the-variants.{Size, Length, Pair, Range, Record, Budget, List, Shape, Order, Limits, Vertex, Count, Long, Edges, Room}
 use Rattle.refusals.specs.declared.Verdict.{Verdict}
 use Rattle.refusals.specs.declared.Verdict.the-variants.{Done, Refused}
 use Rattle.refusals.specs.Choice.{pick}
@@ -24,6 +24,7 @@ numberOf Vertex = 13
 numberOf Count = 14
 numberOf Long = 15
 numberOf Edges = 16
+numberOf Room = 18
 
 -- the number that a caller gets: 0 where nothing was refused
 abbrev pub codeOf : Verdict → ℕ

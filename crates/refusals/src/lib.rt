@@ -83,6 +83,8 @@ pub enum Refusal {
     Long,
     // A graph has more different edges than there are equations.
     Edges,
+    // What was lent for a text is too short for the whole of it.
+    Room,
 }
 
 // Document 01's number for it; an illegal pair's with 256 times its entry. It leaves room above it for a line.
@@ -104,6 +106,7 @@ pub fn number(r: Refusal) -> u64
         Refusal::Count => 14,
         Refusal::Long => 15,
         Refusal::Edges => 16,
+        Refusal::Room => 18,
     }
 }
 

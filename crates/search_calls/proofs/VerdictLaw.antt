@@ -18,14 +18,15 @@ use Rattle.tables.specs.Monomials.{countOf}
 use Rattle.walks.specs.declared.Report.{Report}
 use Rattle.walks.specs.Calls.{reportOf, pointsIn}
 use Rattle.codec.specs.Codec.{wordsIn, bytesFrom, pasted}
+use Rattle.given.specs.Given.{Given}
 use Rattle.opening.specs.declared.Record.{Record}
 use Rattle.search.specs.declared.Answer.the-variants as answer
 use Rattle.search.specs.declared.Outcome.{Outcome}
 use Rattle.opening.specs.Opened.{openedAt}
-use Rattle.search.specs.Search.{trailOf, searchVerdict, answerFrom, answerNumber, answerValues}
+use Rattle.search.specs.Search.{trailBehind, searchVerdict, answerFrom, answerNumber, answerValues}
 use Rattle.lists.specs.Listed.{foundIn, outcomeIn, listIn}
 use Rattle.wire.specs.Wire.{recordIn, recordWords}
-use Rattle.search_calls.specs.Call.{shaped, callVerdict, doneOf, recordBytesAfter, listBytesAfter, answerBytesAfter}
+use Rattle.search_calls.specs.Call.{shaped, inWords, callVerdict, doneOf, recordBytesAfter, listBytesAfter, answerBytesAfter}
 use Rattle.answers.specs.Written.{recordBytes, answerBytes}
 
 module _ (n m a b c d : ℕ) where
@@ -112,54 +113,54 @@ after-twice : (v : Verdict) (old new : List ℕ) → after v old new ≡ after v
 after-twice Done old new = refl
 after-twice (Refused f) old new = refl
 
-module _ (n m : ℕ) (table rec : List ℕ) (budget : ℕ) (list answer : List ℕ) where
+module _ (g : Given) (rec : List ℕ) (budget : ℕ) (list answer : List ℕ) where
   abbrev judged : Verdict
-  judged = callVerdict n m table rec budget list answer
+  judged = callVerdict g rec budget list answer
 
   abbrev said : Verdict
-  said = searchVerdict n m (wordsIn table) (recordIn rec) budget (wordsIn list)
+  said = searchVerdict (inWords g) (recordIn rec) budget (wordsIn list)
 
   abbrev given : Outcome
-  given = doneOf n m table rec budget list
+  given = doneOf g rec budget list
 
   -- what every return of the call says
   abbrev pub Meets : ℕ → List ℕ → List ℕ → List ℕ → Type 0
   Meets c rec′ list′ answer′ =
-      (c ≡ codeOf judged) × (rec′ ≡ recordBytesAfter n m table rec budget list answer) × (list′ ≡ listBytesAfter n m table rec budget list answer)
-      × (answer′ ≡ answerBytesAfter n m table rec budget list answer)
+      (c ≡ codeOf judged) × (rec′ ≡ recordBytesAfter g rec budget list answer) × (list′ ≡ listBytesAfter g rec budget list answer)
+      × (answer′ ≡ answerBytesAfter g rec budget list answer)
 
   -- the three buffers after, by a verdict
   abbrev recordBy : Verdict → List ℕ
   recordBy v = after v rec (bytesFrom (recordWords (given .«record»)))
 
   abbrev listBy : Verdict → List ℕ
-  listBy v = after v list (listIn n m (wordsIn table) (recordIn rec) budget list)
+  listBy v = after v list (listIn (inWords g) (recordIn rec) budget list)
 
   abbrev answerBy : Verdict → List ℕ
-  answerBy v = after v answer (bytesFrom (answerValues (3 ^ n) (given .answer)))
+  answerBy v = after v answer (bytesFrom (answerValues (3 ^ g .n) (given .answer)))
 
-  pub call-refused : (w : Verdict) → w ≡ sized n m (shaped n (length table) (length rec) (length list) (length answer) Done) → (codeOf w ≡ 0 → ⊥)
+  pub call-refused : (w : Verdict) → w ≡ sized (g .n) (g .m) (shaped (g .n) (length (g .words)) (length rec) (length list) (length answer) Done) → (codeOf w ≡ 0 → ⊥)
       → Meets (codeOf w) rec list answer
   call-refused Done e h = absurd (h refl)
   call-refused (Refused f) e h =
-      let i : judged ≡ Refused f = shapes-refused n m (length table) (length rec) (length list) (length answer) f said (sym e) in
+      let i : judged ≡ Refused f = shapes-refused (g .n) (g .m) (length (g .words)) (length rec) (length list) (length answer) f said (sym e) in
       (sym (ap codeOf i), sym (ap recordBy i), sym (ap listBy i), sym (ap answerBy i))
 
-  pub call-done : Shaped n m (length table) (length rec) (length list) (length answer) → (e : ℕ) → e ≡ 3 ^ n
-      → (r : Record) → r ≡ recordIn rec → (o : Outcome) → o ≡ outcomeIn n m (wordsIn table) r budget list
-      → (list′ : List ℕ) → list′ ≡ listIn n m (wordsIn table) r budget list
+  pub call-done : Shaped (g .n) (g .m) (length (g .words)) (length rec) (length list) (length answer) → (e : ℕ) → e ≡ 3 ^ g .n
+      → (r : Record) → r ≡ recordIn rec → (o : Outcome) → o ≡ outcomeIn (inWords g) r budget list
+      → (list′ : List ℕ) → list′ ≡ listIn (inWords g) r budget list
       → (c : ℕ) → c ≡ answerNumber (o .answer) → (rec′ : List ℕ) → rec′ ≡ recordBytes (o .answer) (o .«record») rec
       → (answer′ : List ℕ) → answer′ ≡ answerBytes e (o .answer) answer → Meets c rec′ list′ answer′
   call-done h e ee r er o eo list′ el c ec rec′ ex answer′ ea =
-      let T = trailOf n m (wordsIn table) in
+      let T = trailBehind (inWords g) in
       let p = recordIn rec .place .0 in
       let i : judged ≡ said = h .next said in
-      let g : o ≡ given = eo ∙ ap (λ (x : Record). outcomeIn n m (wordsIn table) x budget list) er in
+      let eg : o ≡ given = eo ∙ ap (λ (x : Record). outcomeIn (inWords g) x budget list) er in
       let w = reportOf T budget (length (wordsIn list)) p in
-      let z = openedAt n m (wordsIn table) (p + pointsIn T budget (length (wordsIn list)) p) in
-      let new = pasted list 0 (bytesFrom (foundIn n m (wordsIn table) p budget (length (wordsIn list)))) in (
-        ec ∙ ap (λ (x : Outcome). answerNumber (x .answer)) g ∙ number-on said w z ∙ sym (ap codeOf i),
-        ex ∙ ap (λ (x : Outcome). recordBytes (x .answer) (x .«record») rec) g ∙ record-on said w z (given .«record») rec ∙ sym (ap recordBy i),
-        el ∙ ap (λ (x : Record). listIn n m (wordsIn table) x budget list) er ∙ after-twice said list new ∙ sym (ap listBy i),
-        ea ∙ ap₂ (λ (x : ℕ) (y : Outcome). answerBytes x (y .answer) answer) ee g ∙ answer-on said (3 ^ n) w z answer ∙ sym (ap answerBy i),
+      let z = openedAt (inWords g) (p + pointsIn T budget (length (wordsIn list)) p) in
+      let new = pasted list 0 (bytesFrom (foundIn (inWords g) p budget (length (wordsIn list)))) in (
+        ec ∙ ap (λ (x : Outcome). answerNumber (x .answer)) eg ∙ number-on said w z ∙ sym (ap codeOf i),
+        ex ∙ ap (λ (x : Outcome). recordBytes (x .answer) (x .«record») rec) eg ∙ record-on said w z (given .«record») rec ∙ sym (ap recordBy i),
+        el ∙ ap (λ (x : Record). listIn (inWords g) x budget list) er ∙ after-twice said list new ∙ sym (ap listBy i),
+        ea ∙ ap₂ (λ (x : ℕ) (y : Outcome). answerBytes x (y .answer) answer) ee eg ∙ answer-on said (3 ^ g .n) w z answer ∙ sym (ap answerBy i),
       )

@@ -10,6 +10,7 @@ use Rattle.refusals.specs.Limits.{recordLength}
 use Rattle.refusals.specs.Refusal.{refuse, sized, after}
 use Rattle.tables.specs.Monomials.{countOf}
 use Rattle.codec.specs.Codec.{wordsIn, bytesFrom}
+use Rattle.given.specs.Given.{Given}
 use Rattle.search.specs.declared.Outcome.{Outcome}
 use Rattle.search.specs.Search.{searchVerdict, answerValues}
 use Rattle.lists.specs.Listed.{outcomeIn, listIn}
@@ -25,26 +26,30 @@ shaped n table rec list answer v =
     (refuse (not (eqb (list % 8) 0)) Length
     (refuse (not (eqb answer answerLength)) Length v)))
 
--- what the call says: 1, then 2 over all arguments, then what the search says of the words
-abbrev pub callVerdict : ℕ → ℕ → List ℕ → List ℕ → ℕ → List ℕ → List ℕ → Verdict
-callVerdict n m table rec budget list answer =
-    sized n m
-    (shaped n (length table) (length rec) (length list) (length answer)
-    (searchVerdict n m (wordsIn table) (recordIn rec) budget (wordsIn list)))
+-- a table that is lent as bytes, read as words
+abbrev pub inWords : Given → Given
+inWords g = record { n = g .n; m = g .m; degree = g .degree; words = wordsIn (g .words) }
+
+-- what the call says, of a table g that is lent as bytes: 1, then 2 over all arguments, then what the search says of the words
+abbrev pub callVerdict : Given → List ℕ → ℕ → List ℕ → List ℕ → Verdict
+callVerdict g rec budget list answer =
+    sized (g .n) (g .m)
+    (shaped (g .n) (length (g .words)) (length rec) (length list) (length answer)
+    (searchVerdict (inWords g) (recordIn rec) budget (wordsIn list)))
 
 -- what the search gives on the words
-abbrev pub doneOf : ℕ → ℕ → List ℕ → List ℕ → ℕ → List ℕ → Outcome
-doneOf n m table rec budget list = outcomeIn n m (wordsIn table) (recordIn rec) budget list
+abbrev pub doneOf : Given → List ℕ → ℕ → List ℕ → Outcome
+doneOf g rec budget list = outcomeIn (inWords g) (recordIn rec) budget list
 
 -- the bytes of the record, the list and the answer after the call; with a refusal as they were
-abbrev pub recordBytesAfter : ℕ → ℕ → List ℕ → List ℕ → ℕ → List ℕ → List ℕ → List ℕ
-recordBytesAfter n m table rec budget list answer =
-    after (callVerdict n m table rec budget list answer) rec (bytesFrom (recordWords (doneOf n m table rec budget list .«record»)))
+abbrev pub recordBytesAfter : Given → List ℕ → ℕ → List ℕ → List ℕ → List ℕ
+recordBytesAfter g rec budget list answer =
+    after (callVerdict g rec budget list answer) rec (bytesFrom (recordWords (doneOf g rec budget list .«record»)))
 
-abbrev pub listBytesAfter : ℕ → ℕ → List ℕ → List ℕ → ℕ → List ℕ → List ℕ → List ℕ
-listBytesAfter n m table rec budget list answer =
-    after (callVerdict n m table rec budget list answer) list (listIn n m (wordsIn table) (recordIn rec) budget list)
+abbrev pub listBytesAfter : Given → List ℕ → ℕ → List ℕ → List ℕ → List ℕ
+listBytesAfter g rec budget list answer =
+    after (callVerdict g rec budget list answer) list (listIn (inWords g) (recordIn rec) budget list)
 
-abbrev pub answerBytesAfter : ℕ → ℕ → List ℕ → List ℕ → ℕ → List ℕ → List ℕ → List ℕ
-answerBytesAfter n m table rec budget list answer =
-    after (callVerdict n m table rec budget list answer) answer (bytesFrom (answerValues (3 ^ n) (doneOf n m table rec budget list .answer)))
+abbrev pub answerBytesAfter : Given → List ℕ → ℕ → List ℕ → List ℕ → List ℕ
+answerBytesAfter g rec budget list answer =
+    after (callVerdict g rec budget list answer) answer (bytesFrom (answerValues (3 ^ g .n) (doneOf g rec budget list .answer)))

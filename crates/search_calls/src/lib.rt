@@ -15,6 +15,7 @@ ghost use Rattle.refusals.specs.Limits.{mostUnknowns};
 ghost use Rattle.refusals.specs.Refusal.{codeOf, sized};
 ghost use Rattle.tables.specs.Monomials.{countOf};
 ghost use Rattle.codec.specs.Codec.{wordsIn};
+ghost use Rattle.given.specs.Given.{quadratic};
 ghost use Rattle.lists.specs.Listed.{outcomeIn, listIn};
 ghost use Rattle.search_calls.specs.Call.{shaped, callVerdict, recordBytesAfter, listBytesAfter, answerBytesAfter};
 
@@ -60,8 +61,8 @@ fn over_bytes(
     list: &mut [u8],
 ) -> Outcome
     requires { ⌜ length (now table) / 8 ≤ length (now words) ⌝ }
-    ensures { λ o. ⌜ (o ≡ outcomeIn n m (wordsIn (now (table .entry))) r budget (now (list .entry)))
-        × (now (list .exit) ≡ listIn n m (wordsIn (now (table .entry))) r budget (now (list .entry))) ⌝ }
+    ensures { λ o. ⌜ (o ≡ outcomeIn (quadratic n m (wordsIn (now (table .entry)))) r budget (now (list .entry)))
+        × (now (list .exit) ≡ listIn (quadratic n m (wordsIn (now (table .entry)))) r budget (now (list .entry))) ⌝ }
 {
     let k = table.len() / 8;
     codec::decode(table, &mut words[..k]);
@@ -78,10 +79,10 @@ pub fn search(
     list: &mut [u8],
     answer: &mut [u8],
 ) -> u64
-    ensures { λ c. ⌜ (c ≡ codeOf (callVerdict n m (now (table .entry)) (now («record» .entry)) budget (now (list .entry)) (now (answer .entry))))
-        × (now («record» .exit) ≡ recordBytesAfter n m (now (table .entry)) (now («record» .entry)) budget (now (list .entry)) (now (answer .entry)))
-        × (now (list .exit) ≡ listBytesAfter n m (now (table .entry)) (now («record» .entry)) budget (now (list .entry)) (now (answer .entry)))
-        × (now (answer .exit) ≡ answerBytesAfter n m (now (table .entry)) (now («record» .entry)) budget (now (list .entry)) (now (answer .entry))) ⌝ }
+    ensures { λ c. ⌜ (c ≡ codeOf (callVerdict (quadratic n m (now (table .entry))) (now («record» .entry)) budget (now (list .entry)) (now (answer .entry))))
+        × (now («record» .exit) ≡ recordBytesAfter (quadratic n m (now (table .entry))) (now («record» .entry)) budget (now (list .entry)) (now (answer .entry)))
+        × (now (list .exit) ≡ listBytesAfter (quadratic n m (now (table .entry))) (now («record» .entry)) budget (now (list .entry)) (now (answer .entry)))
+        × (now (answer .exit) ≡ answerBytesAfter (quadratic n m (now (table .entry))) (now («record» .entry)) budget (now (list .entry)) (now (answer .entry))) ⌝ }
 {
     let v = shapes(n, m, table.len(), record.len(), list.len(), answer.len());
     let refused = refusals::code(v);

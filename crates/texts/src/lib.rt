@@ -2,7 +2,7 @@
 ghost use mathlib.Core.Path.{_≡_};
 ghost use Prim.Native.Nat.{_+_, _≤_, _<_};
 ghost use lib.ListN.{length, drop};
-ghost use Rattle.texts.specs.Text.{Put, decimalOf, refusalLine, longestRefusal};
+ghost use Rattle.texts.specs.Text.{Put, decimalOf, pairLine, refusalLine, longestRefusal};
 
 // Bytes as they are.
 pub fn put(text: &mut [u8], at: usize, s: &[u8]) -> usize
@@ -51,14 +51,23 @@ pub fn put_number(text: &mut [u8], at: usize, x: u64) -> usize
     put(text, at, &bytes[first..])
 }
 
+// A line of two numbers, with these bytes before the first and before the second.
+pub fn put_pair(text: &mut [u8], at: usize, front: &[u8], one: u64, mid: &[u8], other: u64) -> usize
+    requires { ⌜ at + length (now front) + length (now mid) + 41 ≤ length (now text) ⌝ }
+    ensures { λ r. ⌜ Put (now (text .entry)) at (pairLine (now (front .entry)) one (now (mid .entry)) other) (now (text .exit)) r
+        × (r ≤ at + length (now (front .entry)) + length (now (mid .entry)) + 41) ⌝ }
+{
+    let a = put(text, at, front);
+    let b = put_number(text, a, one);
+    let c = put(text, b, mid);
+    let d = put_number(text, c, other);
+    put(text, d, b"\n")
+}
+
 // The only line of a program that refuses its text.
 pub fn put_refusal(text: &mut [u8], number: u64, line: u64) -> usize
     requires { ⌜ longestRefusal ≤ length (now text) ⌝ }
     ensures { λ r. ⌜ Put (now (text .entry)) 0 (refusalLine number line) (now (text .exit)) r × (r ≤ longestRefusal) ⌝ }
 {
-    let a = put(text, 0, b"refused ");
-    let b = put_number(text, a, number);
-    let c = put(text, b, b" line ");
-    let d = put_number(text, c, line);
-    put(text, d, b"\n")
+    put_pair(text, 0, b"refused ", number, b" line ", line)
 }

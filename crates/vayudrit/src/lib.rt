@@ -4,18 +4,19 @@
 ghost use mathlib.Core.Path.{_≡_};
 ghost use lib.ListN.{length};
 ghost use Rattle.refusals.specs.Refusal.{codeOf};
-ghost use Rattle.tables.specs.Answers.{checkedOf, packVerdict, packAfter, copyVerdict, differencesAfter, coefficientsAfter};
 ghost use Rattle.reader.specs.Answers.{wordsAfter, callOf, callCode, toldAfter};
+ghost use Rattle.exchange.specs.Answers as tidied;
+ghost use Rattle.given.specs.Given.{quadratic};
 ghost use Rattle.number_calls.specs.Call.{convertCall, pointAfter, placeAfter, balancedAfter, unbalancedCall, unbalancedAfter};
-ghost use Rattle.table_calls.specs.Call.{evaluateCall, evaluateAfter};
+ghost use Rattle.table_calls.specs.Call.{checkCall, packCall, packLeft, copyCall, differencesLeft, coefficientsLeft, evaluateCall, evaluateAfter};
 ghost use Rattle.record_calls.specs.Call.{openCall, openAfter};
 ghost use Rattle.search_calls.specs.Call.{callVerdict, recordBytesAfter, listBytesAfter, answerBytesAfter};
 
 // Signed rows into a table of words.
 #[no_mangle]
 pub extern "C" fn vayudrit_pack(n: u64, m: u64, rows: &[i8], table: &mut [u64]) -> u64
-    ensures { λ c. ⌜ (c ≡ codeOf (packVerdict n m (now (rows .entry)) (now (table .entry))))
-        × (now (table .exit) ≡ packAfter n m (now (rows .entry)) (now (table .entry))) ⌝ }
+    ensures { λ c. ⌜ (c ≡ codeOf (packCall n m (now (rows .entry)) (now (table .entry))))
+        × (now (table .exit) ≡ packLeft n m (now (rows .entry)) (now (table .entry))) ⌝ }
 {
     table_calls::pack(n, m, rows, table)
 }
@@ -23,7 +24,7 @@ pub extern "C" fn vayudrit_pack(n: u64, m: u64, rows: &[i8], table: &mut [u64]) 
 // Whether a table has its length and only legal pairs.
 #[no_mangle]
 pub extern "C" fn vayudrit_check(n: u64, m: u64, table: &[u64]) -> u64
-    ensures { λ c. ⌜ c ≡ codeOf (checkedOf n m (now (table .entry))) ⌝ }
+    ensures { λ c. ⌜ c ≡ codeOf (checkCall n m (now (table .entry))) ⌝ }
 {
     table_calls::check(n, m, table)
 }
@@ -36,8 +37,8 @@ pub extern "C" fn vayudrit_differences(
     coefficients: &[u64],
     table: &mut [u64],
 ) -> u64
-    ensures { λ c. ⌜ (c ≡ codeOf (copyVerdict n m (now (coefficients .entry)) (now (table .entry))))
-        × (now (table .exit) ≡ differencesAfter n m (now (coefficients .entry)) (now (table .entry))) ⌝ }
+    ensures { λ c. ⌜ (c ≡ codeOf (copyCall n m (now (coefficients .entry)) (now (table .entry))))
+        × (now (table .exit) ≡ differencesLeft n m (now (coefficients .entry)) (now (table .entry))) ⌝ }
 {
     table_calls::differences(n, m, coefficients, table)
 }
@@ -50,8 +51,8 @@ pub extern "C" fn vayudrit_coefficients(
     table: &[u64],
     coefficients: &mut [u64],
 ) -> u64
-    ensures { λ c. ⌜ (c ≡ codeOf (copyVerdict n m (now (table .entry)) (now (coefficients .entry))))
-        × (now (coefficients .exit) ≡ coefficientsAfter n m (now (table .entry)) (now (coefficients .entry))) ⌝ }
+    ensures { λ c. ⌜ (c ≡ codeOf (copyCall n m (now (table .entry)) (now (coefficients .entry))))
+        × (now (coefficients .exit) ≡ coefficientsLeft n m (now (table .entry)) (now (coefficients .entry))) ⌝ }
 {
     table_calls::coefficients(n, m, table, coefficients)
 }
@@ -116,8 +117,8 @@ pub extern "C" fn vayudrit_open(
     place: u64,
     record: &mut [u64],
 ) -> u64
-    ensures { λ c. ⌜ (c ≡ codeOf (openCall n m (now (table .entry)) place (now («record» .entry))))
-        × (now («record» .exit) ≡ openAfter n m (now (table .entry)) place (now («record» .entry))) ⌝ }
+    ensures { λ c. ⌜ (c ≡ codeOf (openCall (quadratic n m (now (table .entry))) place (now («record» .entry))))
+        × (now («record» .exit) ≡ openAfter (quadratic n m (now (table .entry))) place (now («record» .entry))) ⌝ }
 {
     record_calls::open(n, m, table, place, record)
 }
@@ -133,10 +134,10 @@ pub extern "C" fn vayudrit_search(
     list: &mut [u8],
     answer: &mut [u8],
 ) -> u64
-    ensures { λ c. ⌜ (c ≡ codeOf (callVerdict n m (now (table .entry)) (now («record» .entry)) budget (now (list .entry)) (now (answer .entry))))
-        × (now («record» .exit) ≡ recordBytesAfter n m (now (table .entry)) (now («record» .entry)) budget (now (list .entry)) (now (answer .entry)))
-        × (now (list .exit) ≡ listBytesAfter n m (now (table .entry)) (now («record» .entry)) budget (now (list .entry)) (now (answer .entry)))
-        × (now (answer .exit) ≡ answerBytesAfter n m (now (table .entry)) (now («record» .entry)) budget (now (list .entry)) (now (answer .entry))) ⌝ }
+    ensures { λ c. ⌜ (c ≡ codeOf (callVerdict (quadratic n m (now (table .entry))) (now («record» .entry)) budget (now (list .entry)) (now (answer .entry))))
+        × (now («record» .exit) ≡ recordBytesAfter (quadratic n m (now (table .entry))) (now («record» .entry)) budget (now (list .entry)) (now (answer .entry)))
+        × (now (list .exit) ≡ listBytesAfter (quadratic n m (now (table .entry))) (now («record» .entry)) budget (now (list .entry)) (now (answer .entry)))
+        × (now (answer .exit) ≡ answerBytesAfter (quadratic n m (now (table .entry))) (now («record» .entry)) budget (now (list .entry)) (now (answer .entry))) ⌝ }
 {
     search_calls::search(n, m, table, record, budget, list, answer)
 }
@@ -150,4 +151,15 @@ pub extern "C" fn vayudrit_read_graph(text: &[u8], words: &mut [u64], told: &mut
         × (now (told .exit) ≡ toldAfter (callOf (now (text .entry)) (length (now (words .entry))) (length (now (told .entry)))) (now (told .entry))) ⌝ }
 {
     reader::read_told(text, words, told)
+}
+
+// The text of a graph file tidied, to the front of the output: 0, and in the four words told the bytes written, the comment lines, the
+// repeated edges and the lines with the larger vertex first; or the refusal's number plus 256 times its line.
+#[no_mangle]
+pub extern "C" fn vayudrit_tidy(text: &[u8], out: &mut [u8], told: &mut [u64]) -> u64
+    ensures { λ c. ⌜ (c ≡ tidied.codeOf (tidied.answerOf (now (text .entry)) (tidied.callOf (now (text .entry)) (length (now (out .entry))) (length (now (told .entry))))))
+        × (now (out .exit) ≡ tidied.outAfter (tidied.callOf (now (text .entry)) (length (now (out .entry))) (length (now (told .entry)))) (now (out .entry)))
+        × (now (told .exit) ≡ tidied.toldAfter (tidied.answerOf (now (text .entry)) (tidied.callOf (now (text .entry)) (length (now (out .entry))) (length (now (told .entry))))) (now (told .entry))) ⌝ }
+{
+    exchange::tidy_told(text, out, told)
 }

@@ -12,8 +12,8 @@ use Rattle.trits.proofs.LegalLaw.{shr-none, legal-none, legal-more}
 use Rattle.trits.proofs.ExtLaw.{legal-of}
 use Rattle.codec.specs.Codec.{wordsOf, bytesFrom, AllBelow}
 use Rattle.codec.proofs.CodecLaw.{words-bytes, length-from}
-use Rattle.opening.specs.declared.Record.{Record}
-use Rattle.opening.specs.Opened.{systemOf, valueAt, slotOr, slotAt, slotsAt, openedAt}
+use Rattle.given.specs.Given.{Given}
+use Rattle.opening.specs.Opened.{valueAt, slotOr, slotAt, slotsAt, openedAt}
 use Rattle.opening.proofs.SystemLaw.{slots-length}
 use Rattle.wire.specs.Wire.{wordsFrom, recordWords, recordOf, recordIn}
 use Rattle.wire.proofs.WireLaw.{record-words}
@@ -42,48 +42,48 @@ unfolding wordsFrom
 words-length [] = refl
 words-length (v ∷ vs) = omega (arith, words-length vs)
 
-module _ (n m : ℕ) (t : List ℕ) where
-  value-legal : (q : ℕ) → Legal m (valueAt n m t q)
+module _ (g : Given) where
+  value-legal : (q : ℕ) → Legal (g .m) (valueAt g q)
   unfolding valueAt
-  value-legal q = legal-of m _
+  value-legal q = legal-of (g .m) _
 
-  legal-or : (z : Bool) (v : Vector) → Legal m v → Legal m (slotOr z v)
+  legal-or : (z : Bool) (v : Vector) → Legal (g .m) v → Legal (g .m) (slotOr z v)
   legal-or true v l = l
-  legal-or false v l = legal-none m
+  legal-or false v l = legal-none (g .m)
 
-  slot-legal : (q b : ℕ) → Legal m (slotAt n m t q b)
+  slot-legal : (q b : ℕ) → Legal (g .m) (slotAt g q b)
   unfolding slotAt
-  slot-legal q b = legal-or (ltb b n) _ (legal-of m _)
+  slot-legal q b = legal-or (ltb b (g .n)) _ (legal-of (g .m) _)
 
-  module _ (wide : m ≤ 64) where
-    slots-below : (q b k : ℕ) → AllBelow (2 ^ 64) (wordsFrom (slotsAt n m t q b k))
+  module _ (wide : g .m ≤ 64) where
+    slots-below : (q b k : ℕ) → AllBelow (2 ^ 64) (wordsFrom (slotsAt g q b k))
     unfolding slotsAt wordsFrom
     slots-below q b zero = below-nil (2 ^ 64)
     slots-below q b (suc k) =
-        let s = small (slotAt n m t q b) wide (slot-legal q b) in
-        below-cons (2 ^ 64) (slotAt n m t q b .high) (slotAt n m t q b .low ∷ wordsFrom (slotsAt n m t q (suc b) k)) (s .0)
-        (below-cons (2 ^ 64) (slotAt n m t q b .low) (wordsFrom (slotsAt n m t q (suc b) k)) (s .1) (slots-below q (suc b) k))
+        let s = small (slotAt g q b) wide (slot-legal q b) in
+        below-cons (2 ^ 64) (slotAt g q b .high) (slotAt g q b .low ∷ wordsFrom (slotsAt g q (suc b) k)) (s .0)
+        (below-cons (2 ^ 64) (slotAt g q b .low) (wordsFrom (slotsAt g q (suc b) k)) (s .1) (slots-below q (suc b) k))
 
-    pub record-below : n < 2 ^ 64 → (p : ℕ) → p < 2 ^ 64 → AllBelow (2 ^ 64) (recordWords (openedAt n m t p))
+    pub record-below : g .n < 2 ^ 64 → (p : ℕ) → p < 2 ^ 64 → AllBelow (2 ^ 64) (recordWords (openedAt g p))
     unfolding openedAt
     record-below hn p hp =
-        let v = valueAt n m t (p - 1) in
+        let v = valueAt g (p - 1) in
         let s = small v wide (value-legal (p - 1)) in
-        let w = wordsFrom (slotsAt n m t (p - 1) 0 20) in
-        below-cons (2 ^ 64) n (m ∷ p ∷ v .high ∷ v .low ∷ w) hn
-        (below-cons (2 ^ 64) m (p ∷ v .high ∷ v .low ∷ w) (omega (arith, wide))
+        let w = wordsFrom (slotsAt g (p - 1) 0 20) in
+        below-cons (2 ^ 64) (g .n) (g .m ∷ p ∷ v .high ∷ v .low ∷ w) hn
+        (below-cons (2 ^ 64) (g .m) (p ∷ v .high ∷ v .low ∷ w) (omega (arith, wide))
         (below-cons (2 ^ 64) p (v .high ∷ v .low ∷ w) hp
         (below-cons (2 ^ 64) (v .high) (v .low ∷ w) (s .0) (below-cons (2 ^ 64) (v .low) w (s .1) (slots-below (p - 1) 0 20)))))
 
-  pub record-long : (p : ℕ) → length (recordWords (openedAt n m t p)) ≡ 45
+  pub record-long : (p : ℕ) → length (recordWords (openedAt g p)) ≡ 45
   unfolding openedAt
-  record-long p = omega (arith, words-length (slotsAt n m t (p - 1) 0 20), slots-length n m t (p - 1) 0 20)
+  record-long p = omega (arith, words-length (slotsAt g (p - 1) 0 20), slots-length g (p - 1) 0 20)
 
   -- the bytes of an opened record are 360, and say it
-  pub record-bytes : (p : ℕ) → length (bytesFrom (recordWords (openedAt n m t p))) ≡ 360
-  record-bytes p = omega (arith, length-from (recordWords (openedAt n m t p)), record-long p)
+  pub record-bytes : (p : ℕ) → length (bytesFrom (recordWords (openedAt g p))) ≡ 360
+  record-bytes p = omega (arith, length-from (recordWords (openedAt g p)), record-long p)
 
-  pub record-back : m ≤ 64 → n < 2 ^ 64 → (p : ℕ) → p < 2 ^ 64 → recordIn (bytesFrom (recordWords (openedAt n m t p))) ≡ openedAt n m t p
+  pub record-back : g .m ≤ 64 → g .n < 2 ^ 64 → (p : ℕ) → p < 2 ^ 64 → recordIn (bytesFrom (recordWords (openedAt g p))) ≡ openedAt g p
   record-back wide hn p hp =
-      let w = recordWords (openedAt n m t p) in
-      ap recordOf (ap (λ (k : ℕ). wordsOf k (bytesFrom w)) (sym (record-long p)) ∙ words-bytes w (record-below wide hn p hp)) ∙ record-words (openedAt n m t p)
+      let w = recordWords (openedAt g p) in
+      ap recordOf (ap (λ (k : ℕ). wordsOf k (bytesFrom w)) (sym (record-long p)) ∙ words-bytes w (record-below wide hn p hp)) ∙ record-words (openedAt g p)

@@ -63,8 +63,8 @@ key-requires c κs =
     let q = c .before .before .before .before .before .pre .1 in
     (c .before .before .before .before .before .pre .0 .small, omega (arith, first-lt (a .n) (a .place) (c .before .before .before .before .before .pre .0 .some) (q .0), q .1))
 
-sub-head : tie.Need-sub-head
-sub-head c =
+sub-x : tie.Need-sub-x
+sub-x c =
     let a = c .before .before .before .before .before .before .before .args in
     let q = c .before .before .before .before .before .before .before .pre .1 in
     let g = c .before .before .before .split .ensures in
@@ -101,6 +101,6 @@ turn-spec =
     split-requires
     add-c
     key-requires
-    sub-head
+    sub-x
     head-requires
     returns-3)

@@ -69,7 +69,7 @@ returns c =
     let g = k .result .graph in
     let p = l .at + f .result in
     let w = lines-at t (l .at) (f .result) (omega arith) (f .ensures .0 ∙ ap (firstOf 10) (rest-is t (l .at))) in
-    read-refused (k .result .verdict) (stateOf g) (stateOf (l .g)) (l .line) (g .vertices) (edgesOf g) (take (p - l .at) (drop (l .at) t)) (linesOf (drop (p + 1) t)) (sym (c .before .refused .ensures) ∙ c .if1 .taken) (k .ensures .0) ∙ ap (readLines (l .line) (stateOf (l .g))) (sym w) ∙ l .inv .3
+    (read-refused (k .result .verdict) (stateOf g) (stateOf (l .g)) (l .line) (g .vertices) (edgesOf g) (take (p - l .at) (drop (l .at) t)) (linesOf (drop (p + 1) t)) (sym (c .before .refused .ensures) ∙ c .if1 .taken) (k .ensures .0) ∙ ap (readLines (l .line) (stateOf (l .g))) (sym w) ∙ l .inv .3, k .ensures .1 .seen)
 
 add-at : tie.Need-add-at Inv-loop μ-loop
 add-at c = search needs
@@ -98,7 +98,7 @@ returns-2 : tie.Need-returns-2 Inv-loop μ-loop
 returns-2 c =
     let l = c .before .before .loop in
     let t = c .before .before .before .before .before .args .text .now in
-    c .end-fault .ensures ∙ sym (read-none (l .line) (stateOf (l .g))) ∙ ap (readLines (l .line) (stateOf (l .g))) (sym (ap linesOf (drop-of-length-le t {i = l .at} (omega arith)) ∙ lines-none)) ∙ l .inv .3
+    (c .end-fault .ensures ∙ sym (read-none (l .line) (stateOf (l .g))) ∙ ap (readLines (l .line) (stateOf (l .g))) (sym (ap linesOf (drop-of-length-le t {i = l .at} (omega arith)) ∙ lines-none)) ∙ l .inv .3, l .inv .2 .seen)
 
 pub read-lines-spec : {M : Type 1} → statement M
 read-lines-spec =

@@ -7,9 +7,9 @@ use Rattle.refusals.specs.declared.Refusal.the-variants as why
 use Rattle.refusals.specs.declared.Verdict.{Verdict}
 use Rattle.graphs.specs.Reading.{outcomeOf}
 use Rattle.graphs.specs.Scans.{edgesOf, foundOf}
-use Rattle.graphs.proofs.ReadLaw.{length-ends}
+use Rattle.graphs.proofs.ReadLaw.{length-ends, outcome-long, outcome-words, outcome-lines}
 use Rattle.graphs.proofs.SoundLaw.{found-drawn}
-use Rattle.reader.proofs.AnswerLaw.{outcome-long, outcome-words, outcome-lines, answer-refused, answer-graph}
+use Rattle.reader.proofs.AnswerLaw.{answer-refused, answer-graph}
 use borrow.Author.Needs.{needs}
 use Rattle.reader.proofs.read.Statement.{statement}
 use Rattle.reader.proofs.read.Tie as tie
@@ -40,7 +40,7 @@ enum-told c = search needs
 words-requires : tie.Need-words-requires
 words-requires c κs =
     let s = c .before .before .before .read-lines .result in
-    let d = found-drawn (c .before .before .before .before .before .before .before .before .args .text .now) (s .verdict) (s .line) (s .graph .vertices) (edgesOf (s .graph)) (c .before .before .before .read-lines .ensures) (c .enum-told .given .1) in
+    let d = found-drawn (c .before .before .before .before .before .before .before .before .args .text .now) (s .verdict) (s .line) (s .graph .vertices) (edgesOf (s .graph)) (c .before .before .before .read-lines .ensures .0) (c .enum-told .given .1) in
     (d .least, d .most)
 
 slice-relend-prefix-write : tie.Need-slice-relend-prefix-write
@@ -52,7 +52,7 @@ slice-aggregate-write c = sym (length-take-le (c .before .words .result) (c .bef
 write-requires : tie.Need-write-requires
 write-requires c κs =
     let s = c .before .before .before .before .before .read-lines .result in
-    let d = found-drawn (c .before .before .before .before .before .before .before .before .before .before .args .text .now) (s .verdict) (s .line) (s .graph .vertices) (edgesOf (s .graph)) (c .before .before .before .before .before .read-lines .ensures) (c .before .before .enum-told .given .1) in
+    let d = found-drawn (c .before .before .before .before .before .before .before .before .before .before .args .text .now) (s .verdict) (s .line) (s .graph .vertices) (edgesOf (s .graph)) (c .before .before .before .before .before .read-lines .ensures .0) (c .before .before .enum-told .given .1) in
     (length-take-le (c .before .words .result) (c .before .before .before .before .before .before .before .before .before .before .args .words .now) (omega (arith, c .before .words .ensures .1, c .before .before .before .before .before .before .if2 .left)) ∙ c .before .words .ensures .0, d)
 
 returns-3 : tie.Need-returns-3
@@ -61,7 +61,7 @@ returns-3 c =
     let t = a .text .now in
     let w = a .words .now in
     let s = c .before .before .before .before .read-lines .result in
-    answer-refused (outcomeOf t (length w)) _ (s .line) w (outcome-lines t (length w) (c .before .before .before .before .before .before .if1 .left) (c .before .before .before .before .before .if2 .left) ∙ sym (c .before .before .before .before .read-lines .ensures) ∙ ap (λ (f : Verdict). foundOf f (s .line) (s .graph .vertices) (edgesOf (s .graph))) (c .before .verdict .given .1))
+    answer-refused (outcomeOf t (length w)) _ (s .line) w (outcome-lines t (length w) (c .before .before .before .before .before .before .if1 .left) (c .before .before .before .before .before .if2 .left) ∙ sym (c .before .before .before .before .read-lines .ensures .0) ∙ ap (λ (f : Verdict). foundOf f (s .line) (s .graph .vertices) (edgesOf (s .graph))) (c .before .verdict .given .1))
 
 same-length : tie.Need-same-length
 same-length c = search needs
@@ -73,7 +73,7 @@ returns-4 c =
     let w = a .words .now in
     let s = c .before .before .before .before .before .before .before .before .read-lines .result in
     let g = s .graph in
-    answer-graph (outcomeOf t (length w)) (g .vertices) (g .count) (c .before .before .before .before .words .result) (edgesOf g) (c .before .before .write .last .0) w (outcome-lines t (length w) (c .before .before .before .before .before .before .before .before .before .before .if1 .left) (c .before .before .before .before .before .before .before .before .before .if2 .left) ∙ sym (c .before .before .before .before .before .before .before .before .read-lines .ensures) ∙ ap (λ (f : Verdict). foundOf f (s .line) (g .vertices) (edgesOf g)) (c .before .before .before .before .before .enum-told .given .1)) (length-ends (g .count) (g .one) (g .other)) (c .before .before .write .ensures) (c .before .before .before .before .words .ensures .0)
+    answer-graph (outcomeOf t (length w)) (g .vertices) (g .count) (c .before .before .before .before .words .result) (edgesOf g) (c .before .before .write .last .0) w (outcome-lines t (length w) (c .before .before .before .before .before .before .before .before .before .before .if1 .left) (c .before .before .before .before .before .before .before .before .before .if2 .left) ∙ sym (c .before .before .before .before .before .before .before .before .read-lines .ensures .0) ∙ ap (λ (f : Verdict). foundOf f (s .line) (g .vertices) (edgesOf g)) (c .before .before .before .before .before .enum-told .given .1)) (length-ends (g .count) (g .one) (g .other)) (c .before .before .write .ensures) (c .before .before .before .before .words .ensures .0)
 
 pub read-spec : {M : Type 1} → statement M
 read-spec =

@@ -4,6 +4,7 @@ use lib.ListN.{length}
 use Rattle.refusals.specs.declared.Verdict.{Verdict}
 use Rattle.refusals.specs.declared.Verdict.the-variants.{Done}
 use Rattle.refusals.specs.Refusal.{codeOf, after}
+use Rattle.given.specs.Given.{quadratic}
 use Rattle.opening.specs.declared.Opened.{Opened}
 use Rattle.opening.specs.Opened.{openedAt, openVerdict, noRecord}
 use Rattle.wire.specs.Wire.{recordWords}
@@ -30,7 +31,7 @@ returns : tie.Need-returns
 returns c =
     let a = c .before .before .before .before .before .args in
     let l = a .«record» .now in
-    stopped (room (a .n) (a .m) (length l) 45) (room-refused (a .n) (a .m) (length l) 45) _ (c .before .before .room-for .ensures) _ (c .before .code .ensures) (c .if1 .taken) (openVerdict (a .n) (a .m) (a .table .now) (a .place)) l (recordWords (openedAt (a .n) (a .m) (a .table .now) (a .place)))
+    stopped (room (a .n) (a .m) (length l) 45) (room-refused (a .n) (a .m) (length l) 45) _ (c .before .before .room-for .ensures) _ (c .before .code .ensures) (c .if1 .taken) (openVerdict (quadratic (a .n) (a .m) (a .table .now)) (a .place)) l (recordWords (openedAt (quadratic (a .n) (a .m) (a .table .now)) (a .place)))
 
 open-requires : tie.Need-open-requires
 open-requires c κs = search needs
@@ -44,9 +45,9 @@ returns-2 c =
     let a = b .before .before .before .before .args in
     let l = a .«record» .now in
     let h = room-done (a .n) (a .m) (length l) 45 (passed _ _ (b .before .room-for .ensures) _ (b .code .ensures) (c .before .before .before .if1 .left)) in
-    let u = openVerdict (a .n) (a .m) (a .table .now) (a .place) in
+    let u = openVerdict (quadratic (a .n) (a .m) (a .table .now)) (a .place) in
     let e = c .before .code2 .ensures ∙ ap (λ (z : Opened). codeOf (z .verdict)) (c .before .before .«open» .ensures .0) in
-    let new = recordWords (openedAt (a .n) (a .m) (a .table .now) (a .place)) in
+    let new = recordWords (openedAt (quadratic (a .n) (a .m) (a .table .now)) (a .place)) in
     moved (room (a .n) (a .m) (length l) 45 u) u (h .1 u) _ _ l new (e, kept-refused u (λ z. c .if2 .taken (e ∙ z)) l new)
 
 put-record-requires : tie.Need-put-record-requires
@@ -64,8 +65,8 @@ returns-3 c =
     let a = b .before .before .before .before .args in
     let l = a .«record» .now in
     let h = room-done (a .n) (a .m) (length l) 45 (passed _ _ (b .before .room-for .ensures) _ (b .code .ensures) (c .before .before .before .before .before .before .before .before .if1 .left)) in
-    let u = openVerdict (a .n) (a .m) (a .table .now) (a .place) in
-    let x = openedAt (a .n) (a .m) (a .table .now) (a .place) in
+    let u = openVerdict (quadratic (a .n) (a .m) (a .table .now)) (a .place) in
+    let x = openedAt (quadratic (a .n) (a .m) (a .table .now)) (a .place) in
     let o = c .before .before .before .before .before .before .before .«open» .ensures .0 in
     let e = c .before .before .before .before .before .before .code2 .ensures ∙ ap (λ (z : Opened). codeOf (z .verdict)) o in
     let d : u ≡ Done = code-zero u (sym e ∙ c .before .before .before .before .before .if2 .left) in

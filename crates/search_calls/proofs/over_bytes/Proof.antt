@@ -7,6 +7,7 @@ use lib.ListN.{length}
 use lib.Seq.{length-take-le}
 use Rattle.codec.proofs.CodecLaw.{length-words, decoded}
 use Rattle.lists.specs.Listed.{outcomeIn, listIn}
+use Rattle.given.specs.Given.{quadratic}
 use borrow.Author.Needs.{needs}
 use Rattle.search_calls.proofs.over_bytes.Statement.{statement}
 use Rattle.search_calls.proofs.over_bytes.Tie as tie
@@ -55,8 +56,8 @@ returns c =
     let d = c .before .before .before .before .before .before .before .decode in
     let f = c .before .before .search-bytes in
     let e = decoded k (a .words .now) (a .table .now) (d .last .1 .0) (s .pre) (d .ensures) in (
-      f .ensures .0 ∙ ap (λ (t : List ℕ). outcomeIn (a .n) (a .m) t (a .r) (a .budget) (a .list .now)) e,
-      f .ensures .1 ∙ ap (λ (t : List ℕ). listIn (a .n) (a .m) t (a .r) (a .budget) (a .list .now)) e,
+      f .ensures .0 ∙ ap (λ (t : List ℕ). outcomeIn (quadratic (a .n) (a .m) t) (a .r) (a .budget) (a .list .now)) e,
+      f .ensures .1 ∙ ap (λ (t : List ℕ). listIn (quadratic (a .n) (a .m) t) (a .r) (a .budget) (a .list .now)) e,
     )
 
 pub over-bytes-spec : {M : Type 1} → statement M

@@ -4,6 +4,7 @@ use native.Mathlib.Omega.{arith}
 use lib.ListN.{length}
 use Rattle.tables.proofs.IndexLaw.{count-le}
 use Rattle.search_calls.proofs.VerdictLaw.{shapes-passed, call-refused, call-done}
+use Rattle.given.specs.Given.{quadratic}
 use borrow.Author.Needs.{needs}
 use Rattle.search_calls.proofs.search.Statement.{statement}
 use Rattle.search_calls.proofs.search.Tie as tie
@@ -27,7 +28,7 @@ returns c =
     let a = c .before .before .before .before .before .before .before .args in
     let s = c .before .before .shapes in
     let e = c .before .code .ensures in
-    let q = call-refused (a .n) (a .m) (a .table .now) (a .«record» .now) (a .budget) (a .list .now) (a .answer .now) (s .result) (s .ensures) (λ z. c .if1 .taken (e ∙ z)) in
+    let q = call-refused (quadratic (a .n) (a .m) (a .table .now)) (a .«record» .now) (a .budget) (a .list .now) (a .answer .now) (s .result) (s .ensures) (λ z. c .if1 .taken (e ∙ z)) in
     (e ∙ q .0, q .1, q .2, q .3)
 
 read-record-requires : tie.Need-read-record-requires
@@ -75,7 +76,7 @@ returns-2 c =
     let p = c .before .before .before .before .before .before .before .before .before .before .before .before .before .before .power in
     let o = c .before .before .before .before .before .before .before .before .before .before .before .over-bytes in
     let f = c .before .before .before .before .finish in
-    call-done (a .n) (a .m) (a .table .now) (a .«record» .now) (a .budget) (a .list .now) (a .answer .now) h (p .result) (p .ensures .0 (omega (arith, h .within .most))) (r .result) (r .ensures) (o .result) (o .ensures .0) _ (o .ensures .1) _ (f .ensures .0) _ (f .ensures .1) _ (f .ensures .2)
+    call-done (quadratic (a .n) (a .m) (a .table .now)) (a .«record» .now) (a .budget) (a .list .now) (a .answer .now) h (p .result) (p .ensures .0 (omega (arith, h .within .most))) (r .result) (r .ensures) (o .result) (o .ensures .0) _ (o .ensures .1) _ (f .ensures .0) _ (f .ensures .1) _ (f .ensures .2)
 
 pub search-spec : {M : Type 1} → statement M
 search-spec =

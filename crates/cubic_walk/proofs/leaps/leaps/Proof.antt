@@ -154,8 +154,8 @@ array-read-kb c =
     let f = first (a .table .now) (a .n) (a .end) (s .pre .0) k (o .1) (v .result .position) (v .result .rest) (v .ensures .position) (v .ensures .whole) (v .ensures .above) in
     omega (arith, f .low, s .pre .0 .small)
 
-sub-block27 : tie.Need-sub-block27 Inv-loop μ-loop
-sub-block27 c =
+sub-rest : tie.Need-sub-rest Inv-loop μ-loop
+sub-rest c =
     let l = c .before .before .before .before .before .before .before .before .before .before .before .before .loop in
     let s = c .before .before .before .before .before .before .before .before .before .before .before .before .before .before .before .before .before .before .before .before .before .before .before in
     let a = s .args in
@@ -282,7 +282,7 @@ leaps-spec =
     array-copy-out-slot
     mul-kb
     array-read-kb
-    sub-block27
+    sub-rest
     block27-requires
     mul-slots
     array-set-from-slots

@@ -22,11 +22,11 @@ use Rattle.cubic_moves.proofs.turn.Reads as turn-reads
 use Rattle.walk.proofs.going.Reads as going-reads
 
 abbrev Inv-loop : tie.InvT-loop
-Inv-loop table n end budget list₀ len slots₀ seconds₀ value₀ place₀ additions₀ found₀ left₀ list slots seconds value place additions found left =
-    (len ≡ length list₀) × Walked 3 (walkOf n (tripleAt table n)) counts 3 end budget left (stateBy place₀ value₀ slots₀ seconds₀ additions₀ found₀ list₀) (stateBy place value slots seconds additions found list)
+Inv-loop table n end budget list₀ len slots₀ seconds₀ value₀ place₀ cost₀ found₀ left₀ list slots seconds value place cost found left =
+    (len ≡ length list₀) × Walked 3 (walkOf n (tripleAt table n)) counts 3 end budget left (stateBy place₀ value₀ slots₀ seconds₀ cost₀ found₀ list₀) (stateBy place value slots seconds cost found list)
 
 abbrev μ-loop : tie.MeasureT-loop
-μ-loop table n end budget list₀ len slots₀ seconds₀ value₀ place₀ additions₀ found₀ left₀ list slots seconds value place additions found left = left
+μ-loop table n end budget list₀ len slots₀ seconds₀ value₀ place₀ cost₀ found₀ left₀ list slots seconds value place cost found left = left
 
 loop-holds : tie.Need-loop-holds Inv-loop μ-loop
 loop-holds c =
@@ -121,7 +121,7 @@ loop-again c =
     let s = c .before .before .before .before .before .before .before .before .before .before .before .before .before .before .before .before .before .before .before in
     let a = s .args in
     let g = turns (a .table .now) (a .n) (a .end) (s .pre .0) (a .budget) (l .left) (length (a .list .now)) _ _ _ (l .inv .1) refl (c .before .before .before .before .before .before .before .before .before .before .before .going .ensures) (c .before .before .before .before .before .before .before .before .before .before .if1 .taken) in
-    let st = stateBy (l .place) (l .value) (l .slots) (l .seconds) (l .additions) (l .found) (l .list) in
+    let st = stateBy (l .place) (l .value) (l .slots) (l .seconds) (l .cost) (l .found) (l .list) in
     let v = c .before .before .before .before .before .before .before .before .before .split in
     let h = c .before .before .before .before .before .before .turn in
     let m = c .before .before .mark in

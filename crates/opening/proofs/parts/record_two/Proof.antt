@@ -3,7 +3,7 @@ use native.Mathlib.Omega.{arith}
 use lib.ListN.{length-take}
 use Rattle.given.specs.Given.{quadratic}
 use Rattle.given.proofs.TableLaw.{within, table-of}
-use Rattle.opening.proofs.OpenLaw.{count-le}
+use Rattle.tables.proofs.IndexLaw.{count-le}
 use borrow.Author.Needs.{needs}
 use Rattle.opening.proofs.parts.record_two.Statement.{statement}
 use Rattle.opening.proofs.parts.record_two.Tie as tie

@@ -1,0 +1,4 @@
+pub mod SpeltLaw
+pub mod ShapeLaw
+pub mod CellLaw
+pub mod RereadLaw

@@ -1,0 +1,1 @@
+// What a tidied text gives when it is read or tidied again. Definitions and laws, no code.

@@ -1,0 +1,3 @@
+pub mod TidyLaw
+pub mod SetLaw
+pub mod CountLaw
