@@ -1,7 +1,5 @@
-// What the walk record of a cubic table holds after a place: no walking, the same work at every place.
+// What the walk record of a cubic table holds after a place, by counting from the table: no walking, the same work at every place.
 // Contracts cite given/specs/Slots.
-use gray::Place;
-use refusals::MOST_CUBIC_WORDS;
 use refusals::MOST_UNKNOWNS;
 use refusals::SECOND_WORDS;
 use trits::Vector;
@@ -21,14 +19,12 @@ pub struct Stood {
     pub seconds: [u64; SECOND_WORDS],
 }
 
-// What the record of a table of differences holds after place q; c is room for the coefficients.
-fn fill(table: &[u64], n: usize, q: u64, c: &mut [u64]) -> Stood
-    requires { ⌜ (1 ≤ n) × (n ≤ mostUnknowns) × (q < 3 ^ n) × (length (now table) ≡ 2 * cubicCount n) × (length (now c) ≡ 2 * cubicCount n) ⌝ }
+// What the record of a table of differences holds after place q.
+pub fn stood_at(table: &[u64], n: usize, q: u64) -> Stood
+    requires { ⌜ (1 ≤ n) × (n ≤ mostUnknowns) × (q < 3 ^ n) × (length (now table) ≡ 2 * cubicCount n) ⌝ }
     ensures { λ r. ⌜ ((m : ℕ) → CubicTable n m (now (table .entry)) → At (cubic n m (now (table .entry))) q r) ⌝ }
 {
-    let x = gray::digits_at(n, 0, 1, Place(q));
-    cubic_differences::coefficients_into(table, c, n);
-    let value = cubic_evaluation::value_at(c, n, &x);
+    let value = cubic_value::value_after(table, n, q);
     let slots = cubic_slots::slots_at(table, n, q);
     let seconds = seconds::seconds_at(table, n, q);
     Stood {
@@ -36,14 +32,4 @@ fn fill(table: &[u64], n: usize, q: u64, c: &mut [u64]) -> Stood
         slots,
         seconds,
     }
-}
-
-// What the record of a table of differences holds after place q.
-pub fn stood_at(table: &[u64], n: usize, q: u64) -> Stood
-    requires { ⌜ (1 ≤ n) × (n ≤ mostUnknowns) × (q < 3 ^ n) × (length (now table) ≡ 2 * cubicCount n) ⌝ }
-    ensures { λ r. ⌜ ((m : ℕ) → CubicTable n m (now (table .entry)) → At (cubic n m (now (table .entry))) q r) ⌝ }
-{
-    let mut c = [0u64; MOST_CUBIC_WORDS];
-    let len = table.len();
-    fill(table, n, q, &mut c[..len])
 }

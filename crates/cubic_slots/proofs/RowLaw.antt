@@ -19,7 +19,7 @@ use Rattle.gray.specs.Numbers.{pointDigit}
 use Rattle.listed.specs.Lists.{Lists}
 use Rattle.listed.proofs.ListLaw.{listed-lt, listed-rise}
 use Rattle.cubic_slots.specs.declared.Weights.{Weights}
-use Rattle.cubic_slots.specs.Parts.{Weighs, Skips}
+use Rattle.cubic_slots.specs.Parts.{Weighs, Skips, Ready}
 
 -- ---- the listed unknowns past k
 module _ (n : ℕ) (x : ℕ → ℕ) (at turn : List ℕ) (count : ℕ) (lists : Lists n x at turn count) (k from : ℕ) (s : Skips x at count k from) where
@@ -56,13 +56,7 @@ skips-first n x at turn count low lists none = record {
   zero = λ k l m. lists .first k m;
 }
 
--- ---- the digits of the point at place r from b + 1 on, listed; those from number `from` on are past those below `low`
-pub record Ready (n b r : ℕ) (at turn : List ℕ) (count low from : ℕ) : Type 0 where
-  pub x : ℕ → ℕ
-  pub lists : Lists n x at turn count
-  pub digits : (d : ℕ) → b < d → d < n → Cong 3 (x d) (pointDigit 3 r d)
-  pub skips : Skips x at count low from
-
+-- ---- digits listed
 pub ready-first : (n b r : ℕ) (ds at turn : List ℕ) (count : ℕ) → ((k : ℕ) → b + 1 ≤ k → k < n → getD ds k 0 ≡ pointDigit 3 r k) → ((k : ℕ) → (b + 1 ≤ k → k < n → ⊥) → getD ds k 0 ≡ 0)
     → Lists n (λ k. getD ds k 0 % 3) at turn count → Ready n b r at turn count (b + 1) 0
 ready-first n b r ds at turn count used unused lists = record {
@@ -81,7 +75,7 @@ pub ready-late : (n b r : ℕ) (at turn : List ℕ) (count low from : ℕ) → R
 ready-late n b r at turn count low from h t l m = (h .skips .late t l m, listed-lt n (h .x) at turn count (h .lists) t m)
 
 -- ---- sums
-sum-parts : (i j : ℕ) (H : ℕ → ℕ) → sum (i + j) H ≡ sum i H + sum j (λ k. H (i + k))
+pub sum-parts : (i j : ℕ) (H : ℕ → ℕ) → sum (i + j) H ≡ sum i H + sum j (λ k. H (i + k))
 unfolding sum
 sum-parts i zero H = let e : i + 0 ≡ i = omega arith in ap (λ (k : ℕ). sum k H) e ∙ sym (add-zero _)
 sum-parts i (suc j) H = let e : i + suc j ≡ suc (i + j) = omega arith in ap (λ (k : ℕ). sum k H) e ∙ ap (λ (y : ℕ). y + H (i + j)) (sum-parts i j H) ∙ right (sum i H) (sum j (λ k. H (i + k))) (H (i + j))

@@ -11,9 +11,10 @@ use lib.Pow.{pow-add}
 use Rattle.residues.proofs.ModLaw.{Cong, crefl, cof, csym, _⨾_, cdrop, cadd, cmul, cwhole, cancel}
 use Rattle.gray.specs.Numbers.{pointDigit}
 use Rattle.held.specs.Visits.{gathered, visits}
+use Rattle.held.specs.Thirds.{turnsOf, lowSum}
 use Rattle.held.proofs.CountLaw.{gathered-cong, gathered-const}
 use Rattle.held.proofs.VisitLaw.{roomy, visits-fall, visits-thrice}
-use Rattle.held.proofs.ThirdsLaw.{turnsOf, lowSum, turns-point, roomy-ups, roomy-next, roomy-far, roomy-same-next, roomy-same-far, visits-pair-far, visits-pair-same, gathered-far, gathered-near, gathered-twice}
+use Rattle.held.proofs.ThirdsLaw.{turns-point, roomy-ups, roomy-next, roomy-far, roomy-same-next, roomy-same-far, visits-pair-far, visits-pair-same, gathered-far, gathered-near, gathered-twice}
 use Rattle.cubic_slots.specs.declared.Weights.{Weights}
 use Rattle.cubic_slots.specs.Parts.{Weighs}
 
@@ -43,7 +44,7 @@ next-is y s e = cadd (cmul (crefl 2) e) (cmul (crefl (y % 3)) (cadd (cdrop (y / 
 
 -- ---- how often entries are added
 -- turns of a higher digit, from what is left
-turns-part : (r c d : ℕ) → c ≤ d → turnsOf (d - c) (r / 3 ^ c) ≡ turnsOf d r
+pub turns-part : (r c d : ℕ) → c ≤ d → turnsOf (d - c) (r / 3 ^ c) ≡ turnsOf d r
 unfolding turnsOf
 turns-part r c d l =
     let k : c + (d - c) ≡ d = omega arith in
@@ -69,7 +70,7 @@ none-thrice b q =
     nought x = omega arith
 
 -- a distance of two or more
-apart : (c d : ℕ) → suc c < d → d - c ≡ suc (suc (d - c - 2))
+pub apart : (c d : ℕ) → suc c < d → d - c ≡ suc (suc (d - c - 2))
 apart c d l = omega arith
 
 -- two different unknowns

@@ -5,7 +5,9 @@ use Prim.Native.Nat.{ℕ, suc, _+_, _*_, _≤_, _<_}
 use lib.ListN.{getD}
 use Rattle.residues.specs.Sums.{sum}
 use Rattle.residues.proofs.ModLaw.{Cong}
+use Rattle.gray.specs.Numbers.{pointDigit}
 use Rattle.held.specs.Visits.{gathered, visits}
+use Rattle.listed.specs.Lists.{Lists}
 use Rattle.cubics.specs.Cubic.{Cubic}
 use Rattle.cubic_slots.specs.declared.Weights.{Weights}
 
@@ -31,3 +33,10 @@ pub record Skips (x : ℕ → ℕ) (at : List ℕ) (count low from : ℕ) : Type
   pub some : from ≤ count
   pub late : (t : ℕ) → from ≤ t → t < count → low ≤ getD at t 0
   pub zero : (k : ℕ) → low ≤ k → k < getD at from 0 → x k ≡ 0
+
+-- the digits of the point at place r from b + 1 on, listed; those from number `from` on are past those below `low`
+pub record Ready (n b r : ℕ) (at turn : List ℕ) (count low from : ℕ) : Type 0 where
+  pub x : ℕ → ℕ
+  pub lists : Lists n x at turn count
+  pub digits : (d : ℕ) → b < d → d < n → Cong 3 (x d) (pointDigit 3 r d)
+  pub skips : Skips x at count low from

@@ -1,6 +1,6 @@
 // The slots of a cubic record at any place, from its table of differences: each entry of a row as often as it was added to the slot of that row so far,
 // modulo 3. No walking, no coefficients.
-// Contracts cite specs/Slots (what slots are); specs/Parts says what the steps do.
+// Contracts cite specs/Slots (what slots are); specs/Parts says what the steps do. The value is worked out by the same steps (crate cubic_value).
 use cubic_tables::key;
 use cubic_tables::pair;
 use gray::Place;
@@ -25,7 +25,7 @@ ghost use Rattle.residues.proofs.ModLaw.{Cong};
 ghost use Rattle.trits.specs.Trit.{Holds};
 ghost use Rattle.tables.specs.Words.{entry};
 ghost use Rattle.held.specs.Held.{held, along};
-ghost use Rattle.held.proofs.ThirdsLaw.{lowSum};
+ghost use Rattle.held.specs.Thirds.{lowSum};
 ghost use Rattle.cubics.specs.Cubic.{cubicOf};
 ghost use Rattle.cubics.specs.Whole.{backCubic};
 ghost use Rattle.cubic_tables.specs.Order.{cubicCount, keyOf, pairOf};
@@ -35,23 +35,23 @@ ghost use Rattle.cubic_slots.specs.Slots.{CubicSlots};
 ghost use Rattle.cubic_slots.specs.Parts.{slotTo, Weighs, Skips};
 
 // How often the entries of a pair b, c are added, modulo 3: its own and, times a digit, those from c + 2 on; that of c again; that of c + 1.
-struct Weights {
-    whole: u64,
-    same: u64,
-    next: u64,
+pub struct Weights {
+    pub whole: u64,
+    pub same: u64,
+    pub next: u64,
 }
 
 // The moves of the lowest digit before each of the places below k, summed, modulo 3.
-fn low_sum(k: u64) -> u64
+pub fn low_sum(k: u64) -> u64
     ensures { λ r. ⌜ Cong 3 r (lowSum k) × (r ≤ 9) ⌝ }
 {
     k % 3 / 2 + 2 * (k % 3 * (k / 3 % 3))
 }
 
 // The weights of a pair of different unknowns; y is what is left of the place over 3 to the second one.
-fn weigh(y: u64) -> Weights
+pub fn weigh(y: u64) -> Weights
     ensures { λ r. ⌜ Cong 3 (r .whole) (y + 2 * (y / 3)) × Cong 3 (r .same) (y / 3 * (y / 3) + y % 3 * (y / 3) + y % 3 / 2)
-        × Cong 3 (r .next) (2 * lowSum (y / 3) + y % 3 * (y / 3 - y / 3 / 3)) ⌝ }
+        × Cong 3 (r .next) (2 * lowSum (y / 3) + y % 3 * (y / 3 - y / 3 / 3)) × (r .same ≤ 9) × (r .next ≤ 30) ⌝ }
 {
     let k = y / 3;
     let i = y % 3;
@@ -65,7 +65,7 @@ fn weigh(y: u64) -> Weights
 }
 
 // The number in the list from which on the listed unknowns are past k, if it was so for those from k on.
-fn skip(at: &[usize; 21], from: usize, count: usize, k: usize) -> usize
+pub fn skip(at: &[usize; 21], from: usize, count: usize, k: usize) -> usize
     requires { ⌜ (from ≤ count) × (count ≤ mostUnknowns) × (k < 2 ^ 32) ⌝ }
     ensures { λ r. ⌜ ((n : ℕ) (x : ℕ → ℕ) (turn : List ℕ) → Lists n x (now (at .entry)) turn count → Skips x (now (at .entry)) count k from → Skips x (now (at .entry)) count (k + 1) r) × (r ≤ count) ⌝ }
 {
@@ -90,7 +90,7 @@ fn more(table: &[u64], v: Vector, there: bool, k: usize, t: u64) -> Vector
 }
 
 // The row of b, c: its entries, each with its weight; that of b, c, d is entry base + d. Those of the unknowns from c + 2 on are listed from `from` on.
-fn weighed(
+pub fn weighed(
     table: &[u64],
     n: usize,
     b: usize,

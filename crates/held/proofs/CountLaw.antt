@@ -208,3 +208,24 @@ module _ (q : ℕ) (two : 1 < q) (n : ℕ) where
         ∙ ap₂ (λ (x y : ℕ). x + y) (gathered-const q M (entry q (along q F) M) p)
         (gathered-sum q M n (λ e u. visits q (M ++ e ∷ []) u * entry q (along q F) (M ++ e ∷ [])) p
         ∙ sum-ext n _ _ (λ e g. gathered-times q M (visits q (M ++ e ∷ [])) (entry q (along q F) (M ++ e ∷ [])) p)))))
+
+    -- for three less
+    pub held-counts-three : (L : List ℕ) → suc (suc (suc (length L))) ≡ d → (p : ℕ) → p < q ^ n
+        → Cong q (held q (along q F) L p)
+        (entry q (along q F) L + sum n (λ b. visits q (L ++ b ∷ []) p * entry q (along q F) (L ++ b ∷ [])
+        + sum n (λ c. gathered q (L ++ b ∷ []) (visits q ((L ++ b ∷ []) ++ c ∷ [])) p * entry q (along q F) ((L ++ b ∷ []) ++ c ∷ [])
+        + sum n (λ e. gathered q (L ++ b ∷ []) (gathered q ((L ++ b ∷ []) ++ c ∷ []) (visits q (((L ++ b ∷ []) ++ c ∷ []) ++ e ∷ []))) p * entry q (along q F) (((L ++ b ∷ []) ++ c ∷ []) ++ e ∷ [])))))
+    held-counts-three L k p l =
+        held-gathers (along q F) L p l
+        ⨾ cadd (crefl _) (sum-cong q n _ _ (λ b m.
+        let M = L ++ b ∷ [] in
+        let R : ℕ → ℕ → ℕ
+        = λ (c u : ℕ). visits q (M ++ c ∷ []) u * entry q (along q F) (M ++ c ∷ []) + sum n (λ e. gathered q (M ++ c ∷ []) (visits q ((M ++ c ∷ []) ++ e ∷ [])) u * entry q (along q F) ((M ++ c ∷ []) ++ e ∷ [])) in
+        gathered-cong q M q _ (λ u. entry q (along q F) M + sum n (λ c. R c u)) p (λ u g h. held-counts-two M (ap (λ (y : ℕ). suc (suc y)) (more-length L b) ∙ k) u (omega arith))
+        ⨾ cof (gathered-add q M (λ u. entry q (along q F) M) (λ u. sum n (λ c. R c u)) p
+        ∙ ap₂ (λ (x y : ℕ). x + y) (gathered-const q M (entry q (along q F) M) p)
+        (gathered-sum q M n R p ∙ sum-ext n _ _ (λ c g.
+        gathered-add q M (λ u. visits q (M ++ c ∷ []) u * entry q (along q F) (M ++ c ∷ [])) (λ u. sum n (λ e. gathered q (M ++ c ∷ []) (visits q ((M ++ c ∷ []) ++ e ∷ [])) u * entry q (along q F) ((M ++ c ∷ []) ++ e ∷ []))) p
+        ∙ ap₂ (λ (x y : ℕ). x + y) (gathered-times q M (visits q (M ++ c ∷ [])) (entry q (along q F) (M ++ c ∷ [])) p)
+        (gathered-sum q M n (λ e u. gathered q (M ++ c ∷ []) (visits q ((M ++ c ∷ []) ++ e ∷ [])) u * entry q (along q F) ((M ++ c ∷ []) ++ e ∷ [])) p
+        ∙ sum-ext n _ _ (λ e h. gathered-times q M (gathered q (M ++ c ∷ []) (visits q ((M ++ c ∷ []) ++ e ∷ []))) (entry q (along q F) ((M ++ c ∷ []) ++ e ∷ [])) p)))))))

@@ -14,4 +14,5 @@ pub mod ExactLaw
 pub mod CountLaw
 pub mod VisitLaw
 pub mod ThirdsLaw
+pub mod NinthsLaw
 pub mod StandLaw

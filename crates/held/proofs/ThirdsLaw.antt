@@ -16,6 +16,7 @@ use Rattle.gray.specs.Numbers.{pointDigit}
 use Rattle.gray.proofs.GrayLaw.{Stays, Carries, carry, point-low, point-next}
 use Rattle.held.specs.Held.{begins, firstOf}
 use Rattle.held.specs.Visits.{gathered, visits}
+use Rattle.held.specs.Thirds.{turnsOf, lowSum}
 use Rattle.held.proofs.HeldLaw.{begins-self}
 use Rattle.held.proofs.StemLaw.{stemOf}
 use Rattle.held.proofs.PastLaw.{top}
@@ -23,22 +24,14 @@ use Rattle.held.proofs.ExactLaw.{pair-same, pair-other}
 use Rattle.held.proofs.CountLaw.{gathered-none}
 use Rattle.held.proofs.VisitLaw.{roomy, roomy-more, roomy-same, roomy-ext, gathered-number, visits-number, pair-run, same-run, begun-rises, roomy-one, roomy-two, visits-far, visits-near}
 
-two : 1 < 3
+pub two : 1 < 3
 two = omega arith
 
-odd : 2 < 3
+pub odd : 2 < 3
 odd = omega arith
 
-pos : 0 < 3
+pub pos : 0 < 3
 pos = omega arith
-
--- how often digit l of the point has moved after place y
-unfoldable pub turnsOf : ℕ → ℕ → ℕ
-turnsOf l y = y / 3 ^ l - y / 3 ^ l / 3
-
--- that of digit 0, summed over the places below k, modulo 3
-unfoldable pub lowSum : ℕ → ℕ
-lowSum k = k % 3 / 2 + 2 * (k * (k / 3))
 
 pub turns-low : (y : ℕ) → turnsOf 0 y ≡ y - y / 3
 unfolding turnsOf
@@ -120,7 +113,7 @@ roomy-ups (suc x) =
     whole k = omega arith
 
 -- ---- sums of turns
-three-times : (k : ℕ) → k % 3 ≡ 0 → (y : ℕ) → Cong 3 (k * y) 0
+pub three-times : (k : ℕ) → k % 3 ≡ 0 → (y : ℕ) → Cong 3 (k * y) 0
 three-times k e y = let f : k ≡ 3 * (k / 3) = omega arith in cof (ap (λ (x : ℕ). x * y) f ∙ left (k / 3) y) ⨾ cwhole 0 (k / 3 * y)
   where
     left : (a y : ℕ) → 3 * a * y ≡ 0 + 3 * (a * y)
@@ -212,12 +205,12 @@ roomy-same-far l x =
 
 -- ---- places that begin with two positions
 -- the number above them, over a third
-part-is : (c d y : ℕ) → c ≤ d → 3 ^ c * y / 3 ^ d ≡ y / 3 ^ (d - c)
+pub part-is : (c d y : ℕ) → c ≤ d → 3 ^ c * y / 3 ^ d ≡ y / 3 ^ (d - c)
 part-is c d y l =
     let e : 3 ^ d ≡ 3 ^ c * 3 ^ (d - c) = let k : d ≡ c + (d - c) = omega arith in ap (λ (x : ℕ). 3 ^ x) k ∙ pow-add 3 c (d - c) in
     ap (λ (x : ℕ). 3 ^ c * y / x) e ∙ mul-div-mul-left y (3 ^ (d - c)) (one-le-pow c 3 pos)
 
-above-two : (a b y : ℕ) → a + b * suc y - (a + b) ≡ b * y
+pub above-two : (a b y : ℕ) → a + b * suc y - (a + b) ≡ b * y
 above-two a b y = let e : b * suc y ≡ b * y + b = omega arith in omega arith
 
 pub visits-pair-far : (b c p : ℕ) → b < c → visits 3 (b ∷ c ∷ []) p ≡ (p - 3 ^ b) / 3 ^ c - (p - 3 ^ b) / 3 ^ c / 3

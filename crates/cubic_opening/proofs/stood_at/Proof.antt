@@ -1,30 +1,28 @@
--- `cubic_opening::stood_at` meets its contract: the room is the front of 3,502 words.
-use native.Mathlib.Omega.{arith}
-use lib.ListN.{length, length-take}
-use Rattle.cubic_tables.proofs.OrderLaw.{cubic-count-le}
+-- `cubic_opening::stood_at` meets its contract: value, slots and second slots from the table.
 use borrow.Author.Needs.{needs}
+use Rattle.cubic_opening.proofs.StoodLaw.{stood}
 use Rattle.cubic_opening.proofs.stood_at.Statement.{statement}
 use Rattle.cubic_opening.proofs.stood_at.Tie as tie
 use Rattle.cubic_opening.proofs.stood_at.Reads as reads
 use Rattle.cubic_opening.proofs.stood_at.Lts as lts
-use Rattle.cubic_opening.proofs.fill.Reads as fill-reads
+use Rattle.cubic_slots.proofs.slots_at.Reads as slots-at-reads
+use Rattle.cubic_value.proofs.value_after.Reads as value-after-reads
+use Rattle.seconds.proofs.seconds_at.Reads as seconds-at-reads
 
--- src/lib.rt:48:23
-array-borrow-prefix-c : tie.Need-array-borrow-prefix-c
-array-borrow-prefix-c c = let s = c .before in omega (arith, s .pre .3, cubic-count-le (s .args .n) (s .pre .1))
+value-after-requires : tie.Need-value-after-requires
+value-after-requires c κs = search needs
 
--- src/lib.rt:48:23
-slice-aggregate-fill : tie.Need-slice-aggregate-fill
-slice-aggregate-fill c = let s = c .before .before in simp length-take (omega (arith, s .pre .3, cubic-count-le (s .args .n) (s .pre .1)))
+slots-at-requires : tie.Need-slots-at-requires
+slots-at-requires c κs = search needs
 
--- src/lib.rt:48:5
-fill-requires : tie.Need-fill-requires
-fill-requires c κs = let s = c .before .before in (s .pre .0, s .pre .1, s .pre .2, s .pre .3, simp length-take (omega (arith, s .pre .3, cubic-count-le (s .args .n) (s .pre .1))))
+seconds-at-requires : tie.Need-seconds-at-requires
+seconds-at-requires c κs = search needs
 
--- src/lib.rt:42:1
 returns : tie.Need-returns
-returns c = search needs
+returns c m table =
+    let a = c .before .before .before .before .args in
+    stood (a .n) m (a .table .now) table (a .q) _ (c .before .before .value-after .ensures m table) (c .before .slots-at .ensures) (c .seconds-at .ensures)
 
 pub stood-at-spec : {M : Type 1} → statement M
 stood-at-spec =
-    tie.close (tie.spec array-borrow-prefix-c slice-aggregate-fill fill-requires returns)
+    tie.close (tie.spec value-after-requires slots-at-requires seconds-at-requires returns)

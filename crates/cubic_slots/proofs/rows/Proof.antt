@@ -10,10 +10,10 @@ use Rattle.residues.proofs.ModLaw.{Cong}
 use Rattle.trits.specs.Trit.{Holds}
 use Rattle.held.specs.Visits.{gathered, visits}
 use Rattle.cubic_tables.specs.Words.{CubicTable, cubicAt}
-use Rattle.cubic_slots.specs.Parts.{slotTo}
+use Rattle.cubic_slots.specs.Parts.{slotTo, Ready}
 use Rattle.seconds.proofs.CountedLaw.{pair-low, part-next}
 use Rattle.cubic_slots.proofs.WeightLaw.{weighs-other}
-use Rattle.cubic_slots.proofs.RowLaw.{Ready, ready-first, ready-skip, ready-late}
+use Rattle.cubic_slots.proofs.RowLaw.{ready-first, ready-skip, ready-late}
 use Rattle.cubic_slots.proofs.SlotLaw.{slot-more}
 use borrow.Author.Needs.{needs}
 use Rattle.cubic_slots.proofs.rows.Statement.{statement}

@@ -11,8 +11,9 @@ use Rattle.held.specs.Visits.{gathered, visits}
 use Rattle.cubic_tables.proofs.OrderLaw.{cubic-count-low}
 use Rattle.tables.proofs.IndexLaw.{count-is}
 use Rattle.seconds.proofs.CountedLaw.{pair-low, power-small}
+use Rattle.cubic_slots.specs.Parts.{Ready}
 use Rattle.cubic_slots.proofs.WeightLaw.{weighs-twice}
-use Rattle.cubic_slots.proofs.RowLaw.{Ready, ready-first, ready-skip, ready-late}
+use Rattle.cubic_slots.proofs.RowLaw.{ready-first, ready-skip, ready-late}
 use Rattle.cubic_slots.proofs.SlotLaw.{slot-first, slot-more}
 use borrow.Author.Needs.{needs}
 use Rattle.cubic_slots.proofs.twice.Statement.{statement}

@@ -79,7 +79,10 @@ add-t18 c =
 returns : tie.Need-returns
 returns c =
     let y = c .before .args .y in
-    (whole-is y, same-is y, next-is y (c .low-sum .result) (c .low-sum .ensures .0))
+    let p = small (y / 3 % 3) (y / 3 % 3) (mod-lt (y / 3) (omega arith)) in
+    let q = small (y % 3) (y / 3 % 3) (mod-lt y (omega arith)) in
+    let r = small (y % 3) (y / 3 % 3 + 2 * (y / 3 / 3 % 3)) (mod-lt y (omega arith)) in
+    (whole-is y, same-is y, next-is y (c .low-sum .result) (c .low-sum .ensures .0), omega arith, omega arith)
 
 pub weigh-spec : {M : Type 1} → statement M
 weigh-spec =

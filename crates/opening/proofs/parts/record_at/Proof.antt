@@ -35,13 +35,15 @@ record-three-requires c κs =
 returns : tie.Need-returns
 returns c =
     let a = c .before .before .before .before .args in
-    c .record-two .ensures ∙ sym (ap (λ (d : Degree). openedAt (tableWith d (a .n) (a .m) (a .table .now)) (a .place)) (c .before .enum-told .given .1))
+    let x = c .record-two in
+    x .ensures ∙ sym (ap (λ (d : Degree). openedAt (tableWith d (a .n) (a .m) (a .table .now)) (a .place)) (c .before .enum-told .given .1))
 
 -- src/parts.rt:149:1
 returns-2 : tie.Need-returns-2
 returns-2 c =
     let a = c .before .before .before .before .args in
-    c .record-three .ensures ∙ sym (ap (λ (d : Degree). openedAt (tableWith d (a .n) (a .m) (a .table .now)) (a .place)) (c .before .enum-told2 .given .1))
+    let y = c .record-three in
+    y .ensures ∙ sym (ap (λ (d : Degree). openedAt (tableWith d (a .n) (a .m) (a .table .now)) (a .place)) (c .before .enum-told2 .given .1))
 
 pub record-at-spec : {M : Type 1} → statement M
 record-at-spec =
