@@ -4,7 +4,6 @@ use mathlib.Core.Path.{_≡_, refl, sym, ap, ap₂, subst, _∙_}
 use mathlib.Core.Logic.{⊎-elim, inl, inr, _⊎_}
 use mathlib.Core.List.{List, [], _++_}
 use Prim.Native.Nat.{ℕ, _+_, _-_, _*_, _/_, _^_, _≤_, _<_, min}
-use native.Mathlib.Nat.{mul-le-mul-left}
 use native.Mathlib.Omega.{arith}
 use lib.ListN.{length, take, drop, length-append, length-drop}
 use lib.Seq.{length-take-le, take-append-le}
@@ -14,7 +13,9 @@ use Rattle.walks.specs.Calls.{Trail, zerosIn, costIn, pointsIn, stopFrom, repor
 use Rattle.walks.proofs.CallLaw.{zeros-add, cost-add, cost-most, points-none, points-le, points-one, points-end, zeros-room, after-length, after-front}
 use Rattle.codec.specs.Codec.{bytesFrom, pasted}
 use Rattle.codec.proofs.CodecLaw.{paste-paste, paste-none, from-append, from-nil, length-from, length-pasted}
-use Rattle.given.specs.Given.{Given, Checked}
+use Rattle.given.specs.declared.Degree.{Degree}
+use Rattle.given.specs.declared.Degree.the-variants.{Two, Three}
+use Rattle.given.specs.Given.{Given, depthOf, Checked}
 use Rattle.given.proofs.TableLaw.{power-small}
 use Rattle.opening.specs.declared.Record.{Record}
 use Rattle.search.specs.declared.Answer.the-variants.{Ran}
@@ -27,6 +28,14 @@ use Rattle.search.proofs.TrailLaw.{end-is, cost-le, place-opened}
 use Rattle.lists.specs.Listed.{foundIn}
 use Rattle.lists.specs.Pieces.{didOf}
 use Rattle.lists.proofs.CutLaw.{zeros-none, found-add, Cut, cut-none, cut-more, cut-over, report-over}
+
+depth-le : (d : Degree) → depthOf d ≤ 3
+depth-le Two = omega arith
+depth-le Three = omega arith
+
+-- a place costs three additions at most
+pub cost-three : (g : Given) (p : ℕ) → trailBehind g .cost p ≤ 3
+cost-three g p = omega (arith, cost-le g p, depth-le (g .degree))
 
 cost-none : (T : Trail) (p : ℕ) → costIn T p 0 ≡ 0
 unfolding costIn
@@ -158,10 +167,11 @@ module _ (g : Given) (r : Record) (budget : ℕ) (l₀ : List ℕ) where
       pub found-fit : at + w .found ≤ room
       found-fit = omega (arith, found-are, h .used, found-add T p k j, next-cut .fits)
 
-      pub few : Checked g → additions + w .additions ≤ g .degree * 3 ^ 20
+      pub few : Checked g → additions + w .additions ≤ 3 * 3 ^ 20
       few ok =
           let a : k + j ≤ 3 ^ 20 = omega (arith, next-near, power-small g ok) in
-          omega (arith, h .sum, additions-are, cost-add T p k j, cost-most T (g .degree) (cost-le g) p (k + j), mul-le-mul-left (g .degree) a)
+          let c = cost-most T 3 (cost-three g) p (k + j) in
+          omega (arith, h .sum, additions-are, cost-add T p k j, c, a)
 
       next-list : l′ ≡ pasted l₀ 0 (bytesFrom (zerosIn T p (k + j)))
       next-list =

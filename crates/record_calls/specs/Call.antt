@@ -3,14 +3,14 @@ use mathlib.Core.List.{List}
 use Prim.Native.Nat.{ℕ}
 use lib.ListN.{length}
 use Rattle.refusals.specs.declared.Verdict.{Verdict}
-use Rattle.refusals.specs.Limits as limits
+use Rattle.wire.specs.Limits as limits
 use Rattle.refusals.specs.Refusal.{after}
 use Rattle.given.specs.Given.{Given}
 use Rattle.opening.specs.Opened.{openedAt, openVerdict}
 use Rattle.lent.specs.Lent.{room}
 use Rattle.wire.specs.Wire.{recordWords}
 
--- opening at a place, into 45 words
+-- opening at a place, into 465 words
 abbrev pub openCall : Given → ℕ → List ℕ → Verdict
 openCall g p rec = room (g .n) (g .m) (length rec) limits.recordWords (openVerdict g p)
 
