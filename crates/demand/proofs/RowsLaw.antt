@@ -139,7 +139,7 @@ module _ (n m : ℕ) (rows : List ℤ) (c d : List ℕ) (ok : packVerdict n m ro
 
   whole : (qs : List Request) → SaysEnded (fromStart made qs .told) → ListsZeros n m rows (fromStart made qs .listed)
   whole qs e =
-      let w = whole-walk made made-checked qs refl e in
+      let w = whole-walk made made-checked qs e in
       let T = trailBehind made in
       let b : map (placeOf 3 n) (fromStart made qs .listed) ≡ placesIn T 0 (3 ^ n)
       = ap (map (placeOf 3 n)) (w .order) ∙ places-back n (placesIn T 0 (3 ^ n)) (λ i l. omega (arith, places-in T 0 (3 ^ n) i l .below)) in

@@ -19,8 +19,9 @@ use Rattle.held.specs.Stands.{zeros}
 use Rattle.search.specs.declared.Answer.{Answer}
 use Rattle.search.specs.declared.Answer.the-variants.{Ran, Refused}
 use Rattle.given.specs.Given.{quadratic, valuesOf}
-use Rattle.opening.specs.Opened.{valueAt, slotAt, slotsAt, openedAt}
-use Rattle.search.specs.Search.{trailBehind, sameVectors, sameRecord, outcomeOf, listLeft}
+use Rattle.given.specs.Slots.{valueAt, slotAt, slotsAt, secondAt, secondsAt}
+use Rattle.opening.specs.Opened.{openedAt}
+use Rattle.search.specs.Search.{trailBehind, sameList, sameRecord, outcomeOf, listLeft}
 
 -- a case: what the definitions give, and what document 01 says
 record Row : Type 0 where
@@ -79,5 +80,5 @@ rows =
     ∷ []
 
 pub starred : map (λ r. r .gives) rows ≡ map (λ r. r .says) rows
-unfolding sum same bit trit fromBits ofTrits productOf lowestIn lowestOf positionsIn positions latest digit number pointDigit pointOf signedDigit balancedOf valueOf bumped changeBy prev tableOf prevOf backOf countOf rowStart indexOf productNth nth entry tabled legalFront polyAt wordsOf packed differencesOf zerosIn costIn pointsIn reportOf listAfter valuesOf valueAt slotAt slotsAt openedAt zeros trailBehind sameVectors sameRecord
+unfolding sum same bit trit fromBits ofTrits productOf lowestIn lowestOf positionsIn positions latest digit number pointDigit pointOf signedDigit balancedOf valueOf bumped changeBy prev tableOf prevOf backOf countOf rowStart indexOf productNth nth entry tabled legalFront polyAt wordsOf packed differencesOf zerosIn costIn pointsIn reportOf listAfter valuesOf valueAt slotAt slotsAt secondAt secondsAt openedAt zeros trailBehind sameList sameRecord
 starred = refl
