@@ -41,14 +41,13 @@ use Rattle.cubic_tables.proofs.WordsLaw.{cube-none, cubic-nth-at}
 use Rattle.cubic_differences.proofs.FormLaw.{cubic-differences-table}
 use Rattle.cubic_differences.proofs.ReturnLaw.{back-none}
 use Rattle.cubic_differences.proofs.RoundLaw as round
-use Rattle.held.specs.Stands.{zeros, trailOf}
-use Rattle.walks.specs.Calls.{Trail}
+use Rattle.held.specs.Stands.{zeros}
 use Rattle.walks.specs.Runs.{Request, SaysEnded}
 use Rattle.walks.specs.Zeros.{Rising, placesIn}
 use Rattle.walks.proofs.ZeroLaw.{places-in, places-rise}
 use Rattle.given.specs.declared.Degree.{Degree}
 use Rattle.given.specs.declared.Degree.the-variants.{Two, Three}
-use Rattle.given.specs.Given.{Given, depthOf, countIn, behind, cubicBehind, valuesIn, valuesOf, Checked}
+use Rattle.given.specs.Given.{Given, countIn, behind, cubicBehind, valuesIn, valuesOf, Checked}
 use Rattle.given.proofs.TableLaw.{checked-if}
 use Rattle.given.proofs.ValuesLaw.{value-agree, cubic-agree}
 use Rattle.operations.specs.Operations.{packing, packedInto, copying, differencesInto}
@@ -59,7 +58,7 @@ use Rattle.opening.proofs.VerdictLaw.{verdict-done}
 use Rattle.search.specs.Search.{trailBehind}
 use Rattle.demand.specs.Session.{sessionOf}
 use Rattle.demand.specs.Demand.{CommonZero, fromStart}
-use Rattle.demand.specs.Rows.{coefficient, rowAt, RowsZero, ListsZeros, rowsWords, rowsTable, tableFrom, runFrom, FromRows}
+use Rattle.demand.specs.Rows.{coefficient, rowAt, RowsZero, ListsZeros, rowsWords, rowsTable, rowsTrail, tableFrom, runFrom, FromRows}
 use Rattle.demand.proofs.SignedLaw.{Like, like-mul, like-sum, like-floor, floor-lt, floor-is}
 use Rattle.demand.proofs.DemandLaw.{whole-walk, trans-iff}
 
@@ -199,17 +198,14 @@ module _ (d : Degree) (n m : ℕ) (rows : List ℤ) where
   value-rows e l x = values-sum d n m rows e l x .same ∙ sym (floor-is 3 some (rowAt d n rows e x) _ (like-value e l x))
 
   -- its walk is that of the rows
-  pub rowsTrail : Trail
-  rowsTrail = trailOf 3 (depthOf d) (λ e x. floorMod 3 (rowAt d n rows e x)) n m (3 ^ n)
-
   zero-same : (p : ℕ) → zeros 3 m (λ e. valuesOf made e (pointDigit 3 p)) ≡ zeros 3 m (λ e. floorMod 3 (rowAt d n rows e (pointDigit 3 p)))
   zero-same p =
       zeros-ext m (λ e. valuesOf made e (pointDigit 3 p)) (λ e. floorMod 3 (rowAt d n rows e (pointDigit 3 p)))
       (λ e l. value-rows e l (pointDigit 3 p) ∙ sym (mod-eq-of-lt (floor-lt 3 some (rowAt d n rows e (pointDigit 3 p)))))
 
-  pub walk-rows : trailBehind made ≡ rowsTrail
+  pub walk-rows : trailBehind made ≡ rowsTrail d n m rows
   unfolding trailBehind rowsTrail
-  walk-rows = λ i. record { end = 3 ^ n; zeroAt = λ p. zero-same p i; entry = pointOf 3 n; cost = rowsTrail .cost }
+  walk-rows = λ i. record { end = 3 ^ n; zeroAt = λ p. zero-same p i; entry = pointOf 3 n; cost = trailBehind made .cost }
 
   -- its common zeros are the zeros of the rows
   pub zero-rows : (x : ℕ) → CommonZero made x ↔ RowsZero d n m rows x

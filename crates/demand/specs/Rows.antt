@@ -11,11 +11,13 @@ use Rattle.gray.specs.Numbers.{digit, placeOf}
 use Rattle.tables.specs.Words.{packed, differencesOf}
 use Rattle.cubic_tables.specs.Order.{cubicNth, monomialsOf}
 use Rattle.cubic_tables.specs.Words.{cubicPacked, cubicDifferences}
+use Rattle.walks.specs.Calls.{Trail}
 use Rattle.walks.specs.Runs.{Request, Sums, SaysEnded}
 use Rattle.walks.specs.Zeros.{Holds, Rising, Once}
 use Rattle.given.specs.declared.Degree.{Degree}
 use Rattle.given.specs.declared.Degree.the-variants.{Two, Three}
-use Rattle.given.specs.Given.{Given, countIn, tableWith}
+use Rattle.held.specs.Stands.{trailOf}
+use Rattle.given.specs.Given.{Given, depthOf, countIn, tableWith}
 use Rattle.operations.specs.Operations.{packedInto, copying, differencesInto}
 use Rattle.opening.specs.declared.Record.{Record}
 use Rattle.opening.specs.Opened.{openVerdict, openOf}
@@ -53,7 +55,11 @@ rowsWords Three n m rows = cubicDifferences n m (cubicPacked n m rows)
 abbrev pub rowsTable : Degree → ℕ → ℕ → List ℤ → Given
 rowsTable d n m rows = tableWith d n m (rowsWords d n m rows)
 
--- and as it is left, where c and t were lent to packing and to taking the differences
+-- the walk of the rows by their own values
+unfoldable pub rowsTrail : Degree → ℕ → ℕ → List ℤ → Trail
+rowsTrail d n m rows = trailOf 3 (depthOf d) (λ e x. floorMod 3 (rowAt d n rows e x)) n m (3 ^ n)
+
+-- the table as it is left, where c and t were lent to packing and to taking the differences
 abbrev pub tableFrom : Degree → ℕ → ℕ → List ℤ → List ℕ → List ℕ → Given
 tableFrom d n m rows c t = tableWith d n m (differencesInto d n m (packedInto d n m rows c) t)
 
