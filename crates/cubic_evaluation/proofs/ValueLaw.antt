@@ -23,7 +23,7 @@ use Rattle.evaluation.proofs.EvaluateLaw.{rowsPart, rows-whole}
 use Rattle.cubics.specs.Cubic.{Cubic, lowOf, cubesOf, cubicOf}
 use Rattle.cubics.proofs.CubicLaw.{ext-cubic, cubic-below}
 use Rattle.listed.specs.Lists.{Lists, Rising}
-use Rattle.listed.proofs.ListLaw.{sum-listed, none-begun, pair-order}
+use Rattle.listed.proofs.ListLaw.{sum-listed, sum-from-none, none-begun, pair-order}
 use Rattle.cubic_tables.specs.Order.{cubicCount, tripleIndex, keyOf}
 use Rattle.cubic_tables.specs.Words.{CubicTable, cubicAt, cubicValues}
 use Rattle.cubic_tables.proofs.OrderLaw.{pair-is, index-base, triple-lt, cubic-count-low}
@@ -117,18 +117,13 @@ module _ (f : Cubic) (n : ℕ) (x : ℕ → ℕ) where
   pub value-whole : f .const + sum (n - 0) (λ d. planeSum f n (0 + d) x * x (0 + d)) ≡ cubicOf f n x
   unfolding cubicOf cubesOf rowsPart
   value-whole =
-      let z : n - 0 ≡ n = omega arith in
       ap (λ (y : ℕ). f .const + y)
-      (ap (λ (k : ℕ). sum k (λ d. planeSum f n (0 + d) x * x (0 + d))) z
-      ∙ sum-ext n _ (λ i. rowOf (lowOf f) n i x * x i + upper i * x i) (λ i l.
-      ap (λ (k : ℕ). planeSum f n k x * x k) (zero-left i) ∙ ap (λ (y : ℕ). y * x i) (plane-split i) ∙ both (rowOf (lowOf f) n i x) (upper i) (x i))
+      (sum-from-none n (λ i. planeSum f n i x * x i)
+      ∙ sum-ext n _ (λ i. rowOf (lowOf f) n i x * x i + upper i * x i) (λ i l. ap (λ (y : ℕ). y * x i) (plane-split i) ∙ both (rowOf (lowOf f) n i x) (upper i) (x i))
       ∙ sum-add n (λ i. rowOf (lowOf f) n i x * x i) (λ i. upper i * x i))
       ∙ group (f .const) (sum n (λ i. rowOf (lowOf f) n i x * x i)) (sum n (λ i. upper i * x i))
       ∙ ap₂ (λ (a b : ℕ). a + b) (rows-whole (lowOf f) n x) (sum-ext n _ _ (λ i l. upper-is i))
     where
-      zero-left : (y : ℕ) → 0 + y ≡ y
-      zero-left y = omega arith
-
       both : (a b c : ℕ) → (a + b) * c ≡ a * c + b * c
       both a b c = omega arith
 

@@ -21,7 +21,7 @@ use Rattle.polynomials.specs.Poly.{Poly, valueOf}
 use Rattle.polynomials.proofs.TermsLaw.{ext-value}
 use Rattle.polynomials.proofs.PolyLaw.{value-ext}
 use Rattle.listed.specs.Lists.{Rising}
-use Rattle.listed.proofs.ListLaw.{pair-order}
+use Rattle.listed.proofs.ListLaw.{sum-from-none, pair-order}
 use Rattle.tables.specs.Monomials.{countOf, indexOf}
 use Rattle.tables.specs.Words.{entry, Table, polyAt, valuesAt}
 use Rattle.evaluation.specs.Parts.{rowOf}
@@ -110,14 +110,7 @@ pub whole-sum : (m n : ℕ) (F : ℕ → Poly) (x : ℕ → ℕ) (v : Vector) �
     → Holds m (λ e. valueOf (F e) n x) v
 unfolding rowsPart
 whole-sum m n F x v h =
-    let z : n - 0 ≡ n = omega arith in
-    holds-ext (λ e l. ap (λ (y : ℕ). y % 3)
-    (ap (λ (y : ℕ). F e .const + y) (ap (λ (k : ℕ). sum k (λ d. rowOf (F e) n (0 + d) x * x (0 + d))) z
-    ∙ sum-ext n (λ d. rowOf (F e) n (0 + d) x * x (0 + d)) (λ k. rowOf (F e) n k x * x k) (λ d k. ap (λ (y : ℕ). rowOf (F e) n y x * x y) (zero-left d)))
-    ∙ rows-whole (F e) n x)) h
-  where
-    zero-left : (y : ℕ) → 0 + y ≡ y
-    zero-left y = omega arith
+    holds-ext (λ e l. ap (λ (y : ℕ). y % 3) (ap (λ (y : ℕ). F e .const + y) (sum-from-none n (λ k. rowOf (F e) n k x * x k)) ∙ rows-whole (F e) n x)) h
 
 -- the value at digits is that at their remainders
 pub value-mod : (n m : ℕ) (F : ℕ → Poly) (x : ℕ → ℕ) (v : Vector) → Holds m (λ e. valueOf (F e) n (λ k. x k % 3)) v → v ≡ ofTrits m (λ e. valueOf (F e) n x)
