@@ -1,6 +1,5 @@
 -- `evaluation::row_value` meets its contract: the seed is the unknown's coefficient, the row those of its products.
-use mathlib.Core.Path.{_≡_, refl}
-use Prim.Native.Nat.{ℕ, _+_, _-_}
+use mathlib.Core.Path.{refl}
 use native.Mathlib.Omega.{arith}
 use lib.ListN.{getD}
 use Rattle.listed.proofs.ListLaw.{none-begun, pair-order}

@@ -1,5 +1,4 @@
 -- `evaluation::value_at` meets its contract: the unknowns that are not 0, and the value at them.
-use Prim.Native.Nat.{ℕ, _%_}
 use native.Mathlib.Omega.{arith}
 use lib.ListN.{getD}
 use Rattle.listed.proofs.ListLaw.{rising}
