@@ -4,7 +4,7 @@ use cubic_tables::check;
 use cubic_tables::key;
 use evaluation::digits;
 use gray::Point;
-use listed::nonzero;
+use listed::nonzero_into;
 use listed::row;
 use listed::turned;
 use positions::power;
@@ -108,7 +108,7 @@ pub fn value_at(table: &[u64], n: usize, x: &[u64; MOST_UNKNOWNS]) -> Vector
 {
     let mut at = [0usize; 21];
     let mut turn = [0u64; MOST_UNKNOWNS];
-    let count = nonzero(n, x, &mut at, &mut turn);
+    let count = nonzero_into(n, x, &mut at, &mut turn);
     value_of(table, n, &at, &turn, count)
 }
 

@@ -1,6 +1,6 @@
 // The value of a system at a point, from its coefficient table: products with an unknown that is 0 are passed over.
 use gray::Point;
-use listed::nonzero;
+use listed::nonzero_into;
 use listed::row;
 use listed::turned;
 use positions::power;
@@ -89,7 +89,7 @@ pub fn value_at(table: &[u64], n: usize, x: &[u64; MOST_UNKNOWNS]) -> Vector
 {
     let mut at = [0usize; 21];
     let mut turn = [0u64; MOST_UNKNOWNS];
-    let count = nonzero(n, x, &mut at, &mut turn);
+    let count = nonzero_into(n, x, &mut at, &mut turn);
     value_of(table, n, &at, &turn, count)
 }
 

@@ -13,9 +13,16 @@ ghost use Rattle.trits.specs.Trit.{Holds};
 ghost use Rattle.tables.specs.Words.{entry};
 ghost use Rattle.listed.specs.Lists.{Lists, ones};
 
+// The unknowns that are not 0, rising, with n after the last; for each a word that is all ones where the unknown is 2; how many.
+pub struct Listed {
+    pub at: [usize; 21],
+    pub turn: [u64; MOST_UNKNOWNS],
+    pub count: usize,
+}
+
 // Lists the unknowns below n that are not 0 modulo 3: their numbers rise, with n after the last; for each a word that is all ones where the unknown is 2.
 // Answers how many. Nothing branches on a digit: no digit foretells the next.
-pub fn nonzero(
+pub fn nonzero_into(
     n: usize,
     x: &[u64; MOST_UNKNOWNS],
     at: &mut [usize; 21],
@@ -36,6 +43,17 @@ pub fn nonzero(
         k += 1;
     }
     count
+}
+
+// The same list by value.
+pub fn nonzero(n: usize, x: &[u64; MOST_UNKNOWNS]) -> Listed
+    requires { ⌜ n ≤ mostUnknowns ⌝ }
+    ensures { λ r. ⌜ Lists n (λ k. getD (now (x .entry)) k 0 % 3) (r .at) (r .turn) (r .count) × (r .count ≤ n) ⌝ }
+{
+    let mut at = [0usize; 21];
+    let mut turn = [0u64; MOST_UNKNOWNS];
+    let count = nonzero_into(n, x, &mut at, &mut turn);
+    Listed { at, turn, count }
 }
 
 // v times an unknown that is 1 or 2: negated where turn is all ones.

@@ -1,4 +1,4 @@
--- `listed::nonzero` meets its contract. The invariant: the unknowns before k are listed.
+-- `listed::nonzero_into` meets its contract. The invariant: the unknowns before k are listed.
 use borrow.Author.Needs.{needs}
 use mathlib.Core.Path.{_≡_, refl, _∙_}
 use Prim.Native.Nat.{ℕ, _-_, _%_, _≤_}
@@ -8,10 +8,10 @@ use lib.ListN.{length, getD, length-set}
 use lib.Seq.{getD-set-same}
 use Rattle.listed.specs.Lists.{Lists}
 use Rattle.listed.proofs.ListLaw.{none-listed, listed-next}
-use Rattle.listed.proofs.nonzero.Statement.{statement}
-use Rattle.listed.proofs.nonzero.Tie as tie
-use Rattle.listed.proofs.nonzero.Reads as reads
-use Rattle.listed.proofs.nonzero.Lts as lts
+use Rattle.listed.proofs.nonzero_into.Statement.{statement}
+use Rattle.listed.proofs.nonzero_into.Tie as tie
+use Rattle.listed.proofs.nonzero_into.Reads as reads
+use Rattle.listed.proofs.nonzero_into.Lts as lts
 
 abbrev Inv-loop : tie.InvT-loop
 Inv-loop n x at₀ turn₀ all count₀ k₀ at turn count k = (k ≤ n) × (count ≤ k) × (length at ≡ 21) × (length turn ≡ 20) × Lists k (λ j. getD x j 0 % 3) at turn count
@@ -74,8 +74,8 @@ returns c =
     let e : l .k ≡ c .before .before .args .n = omega (arith, c .loop-test .left) in
     (rw (← e) (i .4), omega arith)
 
-pub nonzero-spec : {M : Type 1} → statement M
-nonzero-spec =
+pub nonzero-into-spec : {M : Type 1} → statement M
+nonzero-into-spec =
     tie.close
     (tie.spec
     Inv-loop
