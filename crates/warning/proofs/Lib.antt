@@ -1,0 +1,2 @@
+pub mod AroundLaw
+pub mod WarningLaw
