@@ -1,8 +1,9 @@
--- Chevalley and Warning over F3: if d * m < n, the zeros of m equations of degree d in n unknowns are a multiple of 3.
+-- Chevalley and Warning over F3: the zeros of few equations of degree d in n unknowns are a multiple of 3.
 use mathlib.Core.Path.{_≡_, refl, sym, ap, ap₂, _∙_}
 use mathlib.Core.Bool.{Bool, true, false, _&&_}
+use mathlib.Core.List.{List}
 use Prim.Native.Nat.{ℕ, zero, suc, _+_, _-_, _*_, _%_, _^_, _<_, _≤_}
-use native.Mathlib.Nat.{add-zero, zero-add, mod-lt}
+use native.Mathlib.Nat.{add-zero, zero-add, mod-lt, one-le-pow}
 use native.Mathlib.Omega.{arith}
 use lib.Dec.{eqb}
 use lib.ListN.{length, length-append}
@@ -12,12 +13,15 @@ use Rattle.residues.proofs.SumLaw.{sum-ext, sum-cong}
 use Rattle.gray.specs.Numbers.{pointDigit}
 use Rattle.polynomials.specs.Poly.{Poly, valueOf}
 use Rattle.walks.specs.Calls.{Trail, zerosIn, listed}
+use Rattle.walks.specs.Runs.{Request, Engine, Serves, SaysEnded, sumsOf}
 use Rattle.walks.proofs.CallLaw.{zeros-add}
+use Rattle.walks.proofs.RunsLaw.{whole-run}
 use Rattle.held.specs.Stands.{zeros, trailOf}
 use Rattle.held.proofs.FlatLaw.{Fun, Flat, Ext, flat-le, flat-add, flat-times, flat-const}
 use Rattle.polynomials.proofs.TermsLaw.{flat-value, ext-value}
 use Rattle.cubics.specs.Cubic.{Cubic, cubicOf}
 use Rattle.cubics.proofs.CubicLaw.{flat-cubic, ext-cubic}
+use Rattle.warning.specs.Few.{Few}
 use Rattle.warning.proofs.AroundLaw.{sum-flat}
 
 pos : 0 < 3
@@ -59,10 +63,10 @@ unfolding allNone zeros
 all-is zero F x = crefl 1
 all-is (suc m) F x = cmul (all-is m F x) (none-is (F m x)) ⨾ cof (tally-and (zeros 3 m (λ e. F e x)) (eqb (F m x % 3) 0))
 
-pub all-ext : (m : ℕ) (F : ℕ → Fun) → ((e : ℕ) → e < m → Ext 3 (F e)) → Ext 3 (allNone m F)
+pub all-ext : (m : ℕ) (F : ℕ → Fun) → ((e : ℕ) → Ext 3 (F e)) → Ext 3 (allNone m F)
 unfolding allNone
 all-ext zero F s x y c = crefl 1
-all-ext (suc m) F s x y c = cmul (all-ext m F (λ e l. s e (omega arith)) x y c) (none-cong (F m x) (F m y) (s m (omega arith) x y c))
+all-ext (suc m) F s x y c = cmul (all-ext m F s x y c) (none-cong (F m x) (F m y) (s m x y c))
 
 none-flat : (d : ℕ) (f : Fun) → Ext 3 f → Flat 3 (suc d) f → Flat 3 (suc (2 * d)) (λ x. isNone (f x))
 none-flat d f e s =
@@ -70,13 +74,13 @@ none-flat d f e s =
     (flat-times 3 pos (suc (2 * d)) 1 (2 * d) (λ x. 2) (λ x. f x * f x) (omega arith) (λ x y c. cmul (e x y c) (e x y c)) (flat-const 3 pos 2)
     (flat-times 3 pos (suc (2 * d)) (suc d) d f f (omega arith) e s s))
 
-pub all-flat : (d m : ℕ) (F : ℕ → Fun) → ((e : ℕ) → e < m → Ext 3 (F e)) → ((e : ℕ) → e < m → Flat 3 (suc d) (F e)) → Flat 3 (suc (2 * d * m)) (allNone m F)
+pub all-flat : (d m : ℕ) (F : ℕ → Fun) → ((e : ℕ) → Ext 3 (F e)) → ((e : ℕ) → Flat 3 (suc d) (F e)) → Flat 3 (suc (2 * d * m)) (allNone m F)
 unfolding allNone
 all-flat d zero F s f = flat-le 3 pos 1 (suc (2 * d * 0)) (λ x. 1) (omega arith) (flat-const 3 pos 1)
 all-flat d (suc m) F s f =
     flat-times 3 pos (suc (2 * d * suc m)) (suc (2 * d * m)) (2 * d) (allNone m F) (λ x. isNone (F m x)) (more d m)
-    (λ x y c. none-cong (F m x) (F m y) (s m (omega arith) x y c))
-    (all-flat d m F (λ e l. s e (omega arith)) (λ e l. f e (omega arith))) (none-flat d (F m) (s m (omega arith)) (f m (omega arith)))
+    (λ x y c. none-cong (F m x) (F m y) (s m x y c))
+    (all-flat d m F s f) (none-flat d (F m) (s m) (f m))
   where
     more : (d m : ℕ) → suc (2 * d * m) + 2 * d ≤ suc (2 * d * suc m)
     more d m = omega arith
@@ -101,23 +105,32 @@ count T (suc n) =
         ap length (zeros-add T 0 n 1) ∙ length-append (zerosIn T 0 n) (zerosIn T (0 + n) 1)
         ∙ ap (λ (k : ℕ). length (zerosIn T 0 n) + k) (one T (0 + n) ∙ ap (λ (k : ℕ). tally (T .zeroAt k)) (zero-add n))
 
--- the theorem, for any degree d
-pub warning : (d n m : ℕ) (F : ℕ → Fun) (T : Trail) → d * m < n → ((e : ℕ) → e < m → Ext 3 (F e)) → ((e : ℕ) → e < m → Flat 3 (suc d) (F e))
-    → ((p : ℕ) → p < 3 ^ n → T .zeroAt p ≡ zeros 3 m (λ e. F e (pointDigit 3 p))) → length (zerosIn T 0 (3 ^ n)) % 3 ≡ 0
-warning d n m F T l s f z =
-    (cof (count T (3 ^ n) ∙ sum-ext (3 ^ n) (λ p. tally (T .zeroAt p)) (λ p. tally (zeros 3 m (λ e. F e (pointDigit 3 p)))) (λ p h. ap tally (z p h)))
-    ⨾ sum-cong 3 (3 ^ n) (λ p. tally (zeros 3 m (λ e. F e (pointDigit 3 p)))) (λ p. allNone m F (pointDigit 3 p)) (λ p h. csym (all-is m F (pointDigit 3 p)))
-    ⨾ sum-flat n (allNone m F) (all-ext m F s) (flat-le 3 pos (suc (2 * d * m)) (2 * n) (allNone m F) (less d m n l) (all-flat d m F s f))) .same
-  where
-    less : (d m n : ℕ) → d * m < n → suc (2 * d * m) ≤ 2 * n
-    less d m n l = omega arith
+-- the theorem, over any walk whose zeros are those of m functions of degree d
+module _ (d n m : ℕ) (F : ℕ → Fun) (few : Few d m n) (ext : (e : ℕ) → Ext 3 (F e)) (degree : (e : ℕ) → Flat 3 (suc d) (F e)) where
+  pub warning : (T : Trail) → ((p : ℕ) → p < 3 ^ n → T .zeroAt p ≡ zeros 3 m (λ e. F e (pointDigit 3 p))) → length (zerosIn T 0 (3 ^ n)) % 3 ≡ 0
+  warning T z =
+      (cof (count T (3 ^ n) ∙ sum-ext (3 ^ n) (λ p. tally (T .zeroAt p)) (λ p. tally (zeros 3 m (λ e. F e (pointDigit 3 p)))) (λ p h. ap tally (z p h)))
+      ⨾ sum-cong 3 (3 ^ n) (λ p. tally (zeros 3 m (λ e. F e (pointDigit 3 p)))) (λ p. allNone m F (pointDigit 3 p)) (λ p h. csym (all-is m F (pointDigit 3 p)))
+      ⨾ sum-flat n (allNone m F) (all-ext m F ext) (flat-le 3 pos (suc (2 * d * m)) (2 * n) (allNone m F) (less d m n few) (all-flat d m F ext degree))) .same
+    where
+      less : (d m n : ℕ) → Few d m n → suc (2 * d * m) ≤ 2 * n
+      less d m n l = omega arith
 
--- systems of degree 2
-pub quadratic : (n m : ℕ) (F : ℕ → Poly) (T : Trail) → 2 * m < n → ((p : ℕ) → p < 3 ^ n → T .zeroAt p ≡ zeros 3 m (λ e. valueOf (F e) n (pointDigit 3 p)))
-    → length (zerosIn T 0 (3 ^ n)) % 3 ≡ 0
-quadratic n m F T l z = warning 2 n m (λ e. valueOf (F e) n) T l (λ e h. ext-value 3 pos (F e) n) (λ e h. flat-value 3 pos (F e) n) z
+  -- so the zeros that a whole walk has, and those that a run of calls found whose last answer is "ended"
+  pub walk-warning : length (zerosIn (trailOf 3 d F n m (3 ^ n)) 0 (3 ^ n)) % 3 ≡ 0
+  walk-warning = warning (trailOf 3 d F n m (3 ^ n)) (λ p h. refl)
 
--- systems of degree 3
-pub cubic : (n m : ℕ) (F : ℕ → Cubic) (T : Trail) → 3 * m < n → ((p : ℕ) → p < 3 ^ n → T .zeroAt p ≡ zeros 3 m (λ e. cubicOf (F e) n (pointDigit 3 p)))
-    → length (zerosIn T 0 (3 ^ n)) % 3 ≡ 0
-cubic n m F T l z = warning 3 n m (λ e. cubicOf (F e) n) T l (λ e h. ext-cubic 3 pos (F e) n) (λ e h. flat-cubic 3 pos (F e) n) z
+  pub run-warning : {S : Type 0} (at : ℕ → S) (E : Engine S) (qs : List Request) → Serves (trailOf 3 d F n m (3 ^ n)) at E
+      → SaysEnded (sumsOf E (at 0) qs .told) → sumsOf E (at 0) qs .found % 3 ≡ 0
+  run-warning at E qs serves e =
+      ap (λ (x : ℕ). x % 3) (whole-run (trailOf 3 d F n m (3 ^ n)) at E serves qs (one-le-pow n 3 pos) e .found) ∙ walk-warning
+
+-- ---- runs on systems of degree 2, and of degree 3
+module _ (n m : ℕ) {S : Type 0} (at : ℕ → S) (E : Engine S) (qs : List Request) where
+  pub quadratic : (F : ℕ → Poly) → Few 2 m n → Serves (trailOf 3 2 (λ e. valueOf (F e) n) n m (3 ^ n)) at E
+      → SaysEnded (sumsOf E (at 0) qs .told) → sumsOf E (at 0) qs .found % 3 ≡ 0
+  quadratic F few = run-warning 2 n m (λ e. valueOf (F e) n) few (λ e. ext-value 3 pos (F e) n) (λ e. flat-value 3 pos (F e) n) at E qs
+
+  pub cubic : (F : ℕ → Cubic) → Few 3 m n → Serves (trailOf 3 3 (λ e. cubicOf (F e) n) n m (3 ^ n)) at E
+      → SaysEnded (sumsOf E (at 0) qs .told) → sumsOf E (at 0) qs .found % 3 ≡ 0
+  cubic F few = run-warning 3 n m (λ e. cubicOf (F e) n) few (λ e. ext-cubic 3 pos (F e) n) (λ e. flat-cubic 3 pos (F e) n) at E qs
