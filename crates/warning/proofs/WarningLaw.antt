@@ -11,16 +11,12 @@ use Rattle.residues.specs.Sums.{sum}
 use Rattle.residues.proofs.ModLaw.{Cong, crefl, cof, csym, _⨾_, cdrop, cadd, cmul}
 use Rattle.residues.proofs.SumLaw.{sum-ext, sum-cong}
 use Rattle.gray.specs.Numbers.{pointDigit}
-use Rattle.polynomials.specs.Poly.{Poly, valueOf}
 use Rattle.walks.specs.Calls.{Trail, zerosIn, listed}
 use Rattle.walks.specs.Runs.{Request, Engine, Serves, SaysEnded, sumsOf}
 use Rattle.walks.proofs.CallLaw.{zeros-add}
 use Rattle.walks.proofs.RunsLaw.{whole-run}
 use Rattle.held.specs.Stands.{zeros, trailOf}
 use Rattle.held.proofs.FlatLaw.{Fun, Flat, Ext, flat-le, flat-add, flat-times, flat-const}
-use Rattle.polynomials.proofs.TermsLaw.{flat-value, ext-value}
-use Rattle.cubics.specs.Cubic.{Cubic, cubicOf}
-use Rattle.cubics.proofs.CubicLaw.{flat-cubic, ext-cubic}
 use Rattle.warning.specs.Few.{Few}
 use Rattle.warning.proofs.AroundLaw.{sum-flat}
 
@@ -124,13 +120,3 @@ module _ (d n m : ℕ) (F : ℕ → Fun) (few : Few d m n) (ext : (e : ℕ) → 
       → SaysEnded (sumsOf E (at 0) qs .told) → sumsOf E (at 0) qs .found % 3 ≡ 0
   run-warning at E qs serves e =
       ap (λ (x : ℕ). x % 3) (whole-run (trailOf 3 d F n m (3 ^ n)) at E serves qs (one-le-pow n 3 pos) e .found) ∙ walk-warning
-
--- ---- runs on systems of degree 2, and of degree 3
-module _ (n m : ℕ) {S : Type 0} (at : ℕ → S) (E : Engine S) (qs : List Request) where
-  pub quadratic : (F : ℕ → Poly) → Few 2 m n → Serves (trailOf 3 2 (λ e. valueOf (F e) n) n m (3 ^ n)) at E
-      → SaysEnded (sumsOf E (at 0) qs .told) → sumsOf E (at 0) qs .found % 3 ≡ 0
-  quadratic F few = run-warning 2 n m (λ e. valueOf (F e) n) few (λ e. ext-value 3 pos (F e) n) (λ e. flat-value 3 pos (F e) n) at E qs
-
-  pub cubic : (F : ℕ → Cubic) → Few 3 m n → Serves (trailOf 3 3 (λ e. cubicOf (F e) n) n m (3 ^ n)) at E
-      → SaysEnded (sumsOf E (at 0) qs .told) → sumsOf E (at 0) qs .found % 3 ≡ 0
-  cubic F few = run-warning 3 n m (λ e. cubicOf (F e) n) few (λ e. ext-cubic 3 pos (F e) n) (λ e. flat-cubic 3 pos (F e) n) at E qs
