@@ -11,6 +11,7 @@ use refusals::MOST_WORDS;
 use refusals::PIECE_ENTRIES;
 use streams::Input;
 ghost use mathlib.Core.Path.{_≡_};
+ghost use mathlib.Core.Bool.{true};
 ghost use Prim.Native.Nat.{_+_, _*_, _≤_};
 ghost use lib.ListN.{length};
 ghost use Rattle.refusals.specs.Limits.{mostWords, pieceEntries};
@@ -26,8 +27,11 @@ const BUDGET: u64 = 67108864;
 // The bytes of the text that is lent to each call.
 const TEXT_BYTES: usize = 65536;
 
-// How many bytes of the output were taken so far, and whether those are all.
+// What the calls so far did, how many bytes of the output were taken, and whether those are all.
 struct Driven {
+    points: u64,
+    additions: u64,
+    found: u64,
     sent: u64,
     all: bool,
 }
@@ -48,7 +52,7 @@ fn drive(
     first: u64,
     screen: Screen,
 ) -> Driven
-    requires { ⌜ Standing (now table) begun × (1 ≤ length (now list)) × (longestLayout * length (now list) + longestTotals ≤ length (now text)) × (length (now text) ≤ textBytes) × (first ≤ textBytes) ⌝ }
+    requires { ⌜ Standing (now table) begun × (1 ≤ length (now list)) × (longestLayout * length (now list) + longestTotals ≤ length (now text)) × (length (now text) ≤ textBytes) × (first ≤ textBytes) × (begun .open ≡ true) ⌝ }
     ensures { λ r. ⌜ Drives (now (table .entry)) begun first r ⌝ }
 {
     let mut s = begun;
@@ -62,11 +66,23 @@ fn drive(
         let got = streams::send(STDOUT_FILENO, &text[..used]);
         sent += got as u64;
         if got < used {
-            return Driven { sent, all: false };
+            return Driven {
+                points: s.points,
+                additions: s.additions,
+                found: s.found,
+                sent,
+                all: false,
+            };
         }
         shown = progress::show(screen, shown, before, s);
     }
-    Driven { sent, all: true }
+    Driven {
+        points: s.points,
+        additions: s.additions,
+        found: s.found,
+        sent,
+        all: true,
+    }
 }
 
 // The end of a run that wrote everything: the output is closed, and told is what stands in the text, if that went well.
@@ -86,7 +102,7 @@ fn concluded(told: usize, sent: u64) -> Ending
 
 // The walk of a graph that was read, and its end; so many bytes were taken before it.
 fn walk_graph(s: Session, table: &[u64], list: &mut [u64], text: &mut [u8], first: u64) -> Ending
-    requires { ⌜ Standing (now table) s × (1 ≤ length (now list)) × (longestLayout * length (now list) + longestTotals ≤ length (now text)) × (length (now text) ≤ textBytes) × (first ≤ textBytes) ⌝ }
+    requires { ⌜ Standing (now table) s × (1 ≤ length (now list)) × (longestLayout * length (now list) + longestTotals ≤ length (now text)) × (length (now text) ≤ textBytes) × (first ≤ textBytes) × (s .open ≡ true) ⌝ }
     ensures { λ r. ⌜ Walks (now (table .entry)) s first (now (text .exit)) r ⌝ }
 {
     let screen = progress::look();
@@ -99,7 +115,8 @@ fn walk_graph(s: Session, table: &[u64], list: &mut [u64], text: &mut [u8], firs
             closed: false,
         };
     }
-    let told = texts::put(text, 0, b"ended\n");
+    let head = listing::put_head(text, s.n, s.m);
+    let told = listing::put_totals(text, head, d.points, d.additions, d.found);
     concluded(told, d.sent)
 }
 

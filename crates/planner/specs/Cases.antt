@@ -2,7 +2,7 @@
 use mathlib.Core.Path.{_≡_}
 use mathlib.Core.List.{List, [], _∷_, _++_}
 use Prim.Native.Nat.{ℕ}
-use Rattle.planner.specs.Output.{outputOf, endedLine, toldOf}
+use Rattle.planner.specs.Output.{outputOf, toldOf}
 
 -- "p edge 2 1"
 abbrev pub problem : List ℕ
@@ -54,5 +54,5 @@ refusal = 114 ∷ 101 ∷ 102 ∷ 117 ∷ 115 ∷ 101 ∷ 100 ∷ 32 ∷ 49 ∷ 
 pub record Cases : Type 0 where
   pub output : outputOf (problem ++ edge) ≡ vars ++ (first ++ (second ++ (third ++ (fourth ++ (sixth ++ (eighth ++ totals))))))
   pub refused : outputOf (problem ++ loop) ≡ refusal
-  pub told-ended : toldOf (problem ++ edge) ≡ endedLine
+  pub told-ended : toldOf (problem ++ edge) ≡ vars ++ totals
   pub told-refused : toldOf (problem ++ loop) ≡ refusal

@@ -40,13 +40,9 @@ writtenFor (refused r k) = refusalLine (numberOf r) k
 unfoldable pub outputOf : List ℕ → List ℕ
 outputOf text = writtenFor (outcomeOf text wordsLeast)
 
--- "ended"
-abbrev pub endedLine : List ℕ
-endedLine = 101 ∷ 110 ∷ 100 ∷ 101 ∷ 100 ∷ 10 ∷ []
-
--- what is told beside the output once all of it was written: that the search ended, or the refusal
+-- what is told beside the output once all of it was written: the output without its layouts
 abbrev pub toldFor : Outcome → List ℕ
-toldFor (graph v es) = endedLine
+toldFor (graph v es) = headLine v (length es) ++ totalsLine (3 ^ v) (2 * (3 ^ v - 1) - v) (length (layoutsIn v es 0 (3 ^ v)))
 toldFor (refused r k) = refusalLine (numberOf r) k
 
 unfoldable pub toldOf : List ℕ → List ℕ
@@ -61,10 +57,13 @@ pub record Standing (t : List ℕ) (s : Session) : Type 0 where
   pub additions : s .additions ≡ costIn (trailOf (s .n) (s .m) t) 0 (s .points)
   pub found : s .found ≡ length (zerosIn (trailOf (s .n) (s .m) t) 0 (s .points))
 
+-- the totals of the walk T
+abbrev pub totalsOf : Trail → List ℕ
+totalsOf T = totalsLine (T .end) (costIn T 0 (T .end)) (length (zerosIn T 0 (T .end)))
+
 -- what is left to write of the walk T of n unknowns from place p on
 unfoldable pub leftFrom : ℕ → Trail → ℕ → List ℕ
-leftFrom n T p =
-    layoutLines n (zerosIn T p (T .end - p)) ++ totalsLine (T .end) (costIn T 0 (T .end)) (length (zerosIn T 0 (T .end)))
+leftFrom n T p = layoutLines n (zerosIn T p (T .end - p)) ++ totalsOf T
 
 -- what is left to write: nothing once the session is over
 abbrev pub leftIf : Bool → List ℕ → List ℕ
@@ -74,15 +73,19 @@ leftIf false l = []
 unfoldable pub leftOf : List ℕ → Session → List ℕ
 leftOf t s = leftIf (s .open) (leftFrom (s .n) (trailOf (s .n) (s .m) t) (s .points))
 
--- what is told of a walk that goes on is that it ended; otherwise it is what was written
-abbrev pub toldWhen : Bool → List ℕ → List ℕ
-toldWhen true l = endedLine
-toldWhen false l = l
+-- what is told of a walk at its end: the head and the totals
+unfoldable pub endOf : List ℕ → Session → List ℕ
+endOf t s = headLine (s .n) (s .m) ++ totalsOf (trailOf (s .n) (s .m) t)
+
+-- that of a walk which goes on; otherwise it is what was written
+abbrev pub toldWhen : Bool → List ℕ → List ℕ → List ℕ
+toldWhen true w l = w
+toldWhen false w l = l
 
 -- after reading: what is to be written first, and the rest, are the whole output
 pub record Begun (input table b : List ℕ) (r : Session) : Type 0 where
   pub output : outputOf input ≡ take (r .used) b ++ leftOf (take (2 * countOf (r .n)) table) r
-  pub told : toldOf input ≡ toldWhen (r .open) (take (r .used) b)
+  pub told : toldOf input ≡ toldWhen (r .open) (endOf (take (2 * countOf (r .n)) table) r) (take (r .used) b)
   pub standing : r .open ≡ true → Standing (take (2 * countOf (r .n)) table) r
   pub used : r .used ≤ length b
 
