@@ -37,7 +37,7 @@ use Rattle.demand.proofs.DemandLaw.{end-is, cost-all}
 use Rattle.planner.specs.declared.Session.{Session}
 use Rattle.texts.specs.Text.{refusalLine}
 use Rattle.listing.specs.Listing.{layoutLines, headLine, totalsLine}
-use Rattle.planner.specs.Output.{layoutsIn, writtenFor, outputOf, toldFor, toldOf, totalsOf, leftFrom, leftIf, leftOf, endOf, toldWhen, Begun}
+use Rattle.planner.specs.Output.{layoutsIn, totalsFor, writtenFor, outputOf, toldFor, toldOf, totalsOf, leftFrom, leftIf, leftOf, endOf, toldWhen, Begun}
 use Rattle.planner.specs.Parts.{Refuses, Startable, Started}
 use Rattle.planner.proofs.GraphLaw.{zeros-layouts}
 use Rattle.planner.proofs.NextLaw.{append-none}
@@ -116,8 +116,7 @@ begun-refused input table b f number line r e q h =
 
 -- a graph's totals
 totals-graph : (input : List ℕ) (v : ℕ) (es : List Ends) → outcomeOf input 462 ≡ graph v es
-    → totalsOf (trailOf v (length es) (differencesOf v (length es) (wordsOf v (length es) (systemOf es))))
-    ≡ totalsLine (3 ^ v) (2 * (3 ^ v - 1) - v) (length (layoutsIn v es 0 (3 ^ v)))
+    → totalsOf (trailOf v (length es) (differencesOf v (length es) (wordsOf v (length es) (systemOf es)))) ≡ totalsFor v es
 totals-graph input v es e =
     let t = differencesOf v (length es) (wordsOf v (length es) (systemOf es)) in
     let T = trailOf v (length es) t in
@@ -127,7 +126,7 @@ totals-graph input v es e =
 -- what is left of a graph's walk from place 0 on are its layouts and the totals
 left-graph : (input : List ℕ) (v : ℕ) (es : List Ends) → outcomeOf input 462 ≡ graph v es
     → leftFrom v (trailOf v (length es) (differencesOf v (length es) (wordsOf v (length es) (systemOf es)))) 0
-    ≡ layoutLines v (layoutsIn v es 0 (3 ^ v)) ++ totalsLine (3 ^ v) (2 * (3 ^ v - 1) - v) (length (layoutsIn v es 0 (3 ^ v)))
+    ≡ layoutLines v (layoutsIn v es 0 (3 ^ v)) ++ totalsFor v es
 unfolding leftFrom
 left-graph input v es e =
     let t = differencesOf v (length es) (wordsOf v (length es) (systemOf es)) in

@@ -30,11 +30,13 @@ unfoldable pub layoutsIn : ℕ → List Ends → ℕ → ℕ → List ℕ
 layoutsIn n es p zero = []
 layoutsIn n es p (suc k) = listed (differAt es p) (pointOf 3 n p) (layoutsIn n es (suc p) k)
 
--- the whole output: the head, a line for every layout and the totals of the whole walk; or the refusal and its line
+-- the totals of the whole walk
+abbrev pub totalsFor : ℕ → List Ends → List ℕ
+totalsFor v es = totalsLine (3 ^ v) (2 * (3 ^ v - 1) - v) (length (layoutsIn v es 0 (3 ^ v)))
+
+-- the whole output: the head, a line for every layout and the totals; or the refusal and its line
 abbrev pub writtenFor : Outcome → List ℕ
-writtenFor (graph v es) =
-    headLine v (length es)
-    ++ (layoutLines v (layoutsIn v es 0 (3 ^ v)) ++ totalsLine (3 ^ v) (2 * (3 ^ v - 1) - v) (length (layoutsIn v es 0 (3 ^ v))))
+writtenFor (graph v es) = headLine v (length es) ++ (layoutLines v (layoutsIn v es 0 (3 ^ v)) ++ totalsFor v es)
 writtenFor (refused r k) = refusalLine (numberOf r) k
 
 unfoldable pub outputOf : List ℕ → List ℕ
@@ -42,7 +44,7 @@ outputOf text = writtenFor (outcomeOf text wordsLeast)
 
 -- what is told beside the output once all of it was written: the output without its layouts
 abbrev pub toldFor : Outcome → List ℕ
-toldFor (graph v es) = headLine v (length es) ++ totalsLine (3 ^ v) (2 * (3 ^ v - 1) - v) (length (layoutsIn v es 0 (3 ^ v)))
+toldFor (graph v es) = headLine v (length es) ++ totalsFor v es
 toldFor (refused r k) = refusalLine (numberOf r) k
 
 unfoldable pub toldOf : List ℕ → List ℕ
