@@ -8,7 +8,7 @@ ghost use lib.ListN.{length};
 ghost use Rattle.codec.specs.Codec.{bytesFrom};
 ghost use Rattle.walks.specs.Calls.{stopNumber, stopPlace};
 ghost use Rattle.search.specs.declared.Answer.the-variants.{Ran};
-ghost use Rattle.wire.specs.Limits.{recordLength};
+ghost use Rattle.refusals.specs.Limits.{recordLength};
 ghost use Rattle.search.specs.Search.{answerNumber, answerValues};
 ghost use Rattle.answers.specs.Written.{answerLength, recordBytes, answerBytes};
 

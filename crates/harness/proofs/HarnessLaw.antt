@@ -34,10 +34,9 @@ use Rattle.search.specs.declared.Answer.the-variants.{Ran}
 use Rattle.search.specs.declared.Outcome.{Outcome}
 use Rattle.search.specs.Search.{trailBehind, searchVerdict, ranOf, outcomeFrom, answerValues}
 use Rattle.search.proofs.VerdictLaw.{asked, verdict-opened}
-use Rattle.search.proofs.TrailLaw.{end-is, entry-lt, place-opened}
+use Rattle.search.proofs.TrailLaw.{end-is, entry-lt, cost-three, place-opened}
 use Rattle.demand.proofs.DemandLaw.{trans-iff, distinct, cost-all, zero-iff}
 use Rattle.lists.specs.Listed.{foundIn, listIn}
-use Rattle.lists.proofs.PieceLaw.{cost-three}
 use Rattle.wire.specs.Wire.{recordIn, recordWords}
 use Rattle.wire.proofs.SmallLaw.{record-bytes, record-back}
 use Rattle.search_calls.specs.Call.{readingOf, inWords, callVerdict, answerBytesAfter, doneOf}

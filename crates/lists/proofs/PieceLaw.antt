@@ -13,9 +13,7 @@ use Rattle.walks.specs.Calls.{Trail, zerosIn, costIn, pointsIn, stopFrom, repor
 use Rattle.walks.proofs.CallLaw.{zeros-add, cost-add, cost-most, points-none, points-le, points-one, points-end, zeros-room, after-length, after-front}
 use Rattle.codec.specs.Codec.{bytesFrom, pasted}
 use Rattle.codec.proofs.CodecLaw.{paste-paste, paste-none, from-append, from-nil, length-from, length-pasted}
-use Rattle.given.specs.declared.Degree.{Degree}
-use Rattle.given.specs.declared.Degree.the-variants.{Two, Three}
-use Rattle.given.specs.Given.{Given, depthOf, Checked}
+use Rattle.given.specs.Given.{Given, Checked}
 use Rattle.given.proofs.TableLaw.{power-small}
 use Rattle.opening.specs.declared.Record.{Record}
 use Rattle.search.specs.declared.Answer.the-variants.{Ran}
@@ -24,18 +22,10 @@ use Rattle.opening.specs.Opened.{openedAt}
 use Rattle.search.specs.Search.{trailBehind, fits, ranOf}
 use Rattle.search.proofs.VerdictLaw.{fits-opened}
 use Rattle.search.proofs.RanLaw as ran
-use Rattle.search.proofs.TrailLaw.{end-is, cost-le, place-opened}
+use Rattle.search.proofs.TrailLaw.{end-is, cost-three, place-opened}
 use Rattle.lists.specs.Listed.{foundIn}
 use Rattle.lists.specs.Pieces.{didOf}
 use Rattle.lists.proofs.CutLaw.{zeros-none, found-add, Cut, cut-none, cut-more, cut-over, report-over}
-
-depth-le : (d : Degree) → depthOf d ≤ 3
-depth-le Two = omega arith
-depth-le Three = omega arith
-
--- a place costs three additions at most
-pub cost-three : (g : Given) (p : ℕ) → trailBehind g .cost p ≤ 3
-cost-three g p = omega (arith, cost-le g p, depth-le (g .degree))
 
 cost-none : (T : Trail) (p : ℕ) → costIn T p 0 ≡ 0
 unfolding costIn

@@ -3,7 +3,7 @@ use mathlib.Core.List.{List}
 use Prim.Native.Nat.{ℕ}
 use lib.ListN.{length}
 use Rattle.refusals.specs.declared.Verdict.{Verdict}
-use Rattle.wire.specs.Limits as limits
+use Rattle.refusals.specs.Limits as limits
 use Rattle.refusals.specs.Refusal.{after}
 use Rattle.given.specs.Given.{Given}
 use Rattle.opening.specs.Opened.{openedAt, openVerdict}

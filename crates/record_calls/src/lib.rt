@@ -1,7 +1,7 @@
 // The record of a table of either degree into lent words: 0, or the number of the refusal, which leaves what was lent as it was.
 // Contracts cite specs/Call.
 use gray::Place;
-use wire::RECORD_WORDS;
+use refusals::RECORD_WORDS;
 ghost use mathlib.Core.Path.{_≡_};
 ghost use Rattle.refusals.specs.Refusal.{codeOf};
 ghost use Rattle.given.specs.Given.{tableTold};

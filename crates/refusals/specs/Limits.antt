@@ -21,12 +21,16 @@ secondWords = 420
 abbrev pub mostCubicWords : ℕ
 mostCubicWords = 3502
 
+-- a record's words before its second slots
+abbrev pub firstWords : ℕ
+firstWords = 45
+
 -- a record's words, and its bytes for C
 abbrev pub recordWords : ℕ
-recordWords = 45
+recordWords = 465
 
 abbrev pub recordLength : ℕ
-recordLength = 360
+recordLength = 3720
 
 -- the entries of the list that one call fills, where a longer list is filled by several
 abbrev pub pieceEntries : ℕ

@@ -20,10 +20,15 @@ pub const SECOND_WORDS: usize = 420;
 
 pub const MOST_CUBIC_WORDS: usize = 3502;
 
-// A record's words, and its bytes for C.
-pub const RECORD_WORDS: usize = 45;
+// A record's words before its second slots, and their bytes.
+pub const FIRST_WORDS: usize = 45;
 
-pub const RECORD_LENGTH: usize = 360;
+pub const FIRST_LENGTH: usize = 360;
+
+// A record's words, and its bytes for C.
+pub const RECORD_WORDS: usize = 465;
+
+pub const RECORD_LENGTH: usize = 3720;
 
 // The entries of the list that one call fills, where a longer list is filled by several.
 pub const PIECE_ENTRIES: usize = 1024;

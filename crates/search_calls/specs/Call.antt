@@ -7,7 +7,7 @@ use lib.ListN.{length, getD}
 use Rattle.refusals.specs.declared.Refusal.the-variants.{Length}
 use Rattle.refusals.specs.declared.Verdict.{Verdict}
 use Rattle.refusals.specs.Choice.{pick}
-use Rattle.wire.specs.Limits.{recordLength}
+use Rattle.refusals.specs.Limits.{recordLength}
 use Rattle.refusals.specs.Refusal.{refuse, sized, after}
 use Rattle.codec.specs.Codec.{wordsIn, bytesFrom}
 use Rattle.given.specs.declared.Degree.{Degree}

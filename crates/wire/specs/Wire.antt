@@ -2,7 +2,7 @@
 use mathlib.Core.List.{List, [], _∷_, _++_}
 use Prim.Native.Nat.{ℕ}
 use lib.ListN.{getD, take, drop}
-use Rattle.wire.specs.Limits as limits
+use Rattle.refusals.specs.Limits as limits
 use Rattle.trits.specs.declared.Vector.{Vector}
 use Rattle.codec.specs.Codec.{wordsOf}
 use Rattle.opening.specs.declared.Record.{Record}

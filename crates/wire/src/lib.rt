@@ -1,22 +1,16 @@
 // Walk records as words, and these as bytes. Contracts cite specs/Wire.
 use gray::Place;
 use opening::Record;
+use refusals::FIRST_LENGTH;
+use refusals::FIRST_WORDS;
 use refusals::MOST_UNKNOWNS;
 use refusals::SECOND_WORDS;
 use trits::Vector;
 ghost use mathlib.Core.Path.{_≡_};
 ghost use lib.ListN.{length};
-ghost use Rattle.wire.specs.Limits as limits;
+ghost use Rattle.refusals.specs.Limits as limits;
 ghost use Rattle.codec.specs.Codec.{wordsOf, bytesFrom};
 ghost use Rattle.wire.specs.Wire.{firstWords, recordWith, recordOf, recordWords};
-
-pub const FIRST_WORDS: usize = 45;
-
-pub const FIRST_LENGTH: usize = 360;
-
-pub const RECORD_WORDS: usize = 465;
-
-pub const RECORD_LENGTH: usize = 3720;
 
 // The record of its first 45 words and of its second slots.
 fn record_of(w: &[u64], seconds: [u64; SECOND_WORDS]) -> Record
