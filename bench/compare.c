@@ -5,7 +5,8 @@
  * Compared is the library's time against the plain C walk of the same run. A release is marked if
  * its file cannot be read or does not say where it comes from, if one of its runs has no number
  * (it did not end, was refused, miscounted, breaks C-22's rule), if it was measured against another
- * plain walk, or if it lacks a case that another has. What is marked is told before anything else,
+ * plain walk, or if it lacks a case that another has, unless that is of a degree that came after it.
+ * What is marked is told before anything else,
  * stands last, and is never best, never first and never in the summary. The order of the files given
  * does not matter: releases stand in the order of their commits. Exit is 0 if no release is marked,
  * 2 if one is, and 1 if nothing can be compared; then nothing is written. */
@@ -60,7 +61,8 @@ static void write_case(FILE *f, const struct row *row) {
         struct ratio ratio = ratio_at(row, k);
         fprintf(f, " %9.3f %9.3f %9.3f %11.2f %7u  ended", ratio.middle, ratio.low, ratio.high,
                 spread_of(&row->of[k]->run[LIBRARY]).median, row->of[k]->rounds);
-        if (k > 0 && k < good_count) fprintf(f, "; against %c: %s", letter(k - 1), judged(row, k));
+        if (k < good_count && good_before(row, k) >= 0)
+            fprintf(f, "; against %c: %s", letter((unsigned)good_before(row, k)), judged(row, k));
         if (is_best(row, k)) fputs("; best", f);
         if (is_marked(releases[k])) fputs("; marked: lacks cases", f);
         fputc('\n', f);
@@ -112,9 +114,9 @@ static void draw_bar(FILE *f, const struct row *row, unsigned k, double x, doubl
     fprintf(f, "<path class=\"range\" d=\"M%.1f %.1fV%.1fM%.1f %.1fH%.1fM%.1f %.1fV%.1f\"/>\n", x + scale * ratio.low,
             centre - 6, centre + 6, x + scale * ratio.low, centre, x + scale * ratio.high, x + scale * ratio.high,
             centre - 6, centre + 6);
+    const char *words = k >= good_count ? "lacks cases" : good_before(row, k) >= 0 ? judged(row, k) : "";
     write_text(f, x + BARS + 12, y + BAR - 6, is_best(row, k) ? "best" : "", "ended, %.*f \xc3\x97 plain%s%s",
-               ratio.middle < 10 ? 2 : 1, ratio.middle, k == 0 ? "" : ", ",
-               k == 0 ? "" : k < good_count ? judged(row, k) : "lacks cases");
+               ratio.middle < 10 ? 2 : 1, ratio.middle, words[0] == '\0' ? "" : ", ", words);
 }
 
 /* The words of a release without a bar: of a fault in its file without the line, of a verdict its first part. */

@@ -4,7 +4,8 @@
 #define BENCH_FORMAT_H
 
 #define RESULTS_TITLE "vayudrit-bench"
-#define RESULTS_VERSION "2"
+#define RESULTS_VERSION "3"
+#define RESULTS_EARLIER "2" /* read, too: degree 2 alone, and its yardstick alone */
 
 enum { MOST_ROUNDS = 200 };
 

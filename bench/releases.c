@@ -83,6 +83,24 @@ static void mark_runs(struct release *r, const struct bench_case *c) {
     }
 }
 
+/* Whether a file has cases of the same base and degree as this one. */
+static int has_kind(const struct release *r, const struct bench_case *c) {
+    const struct results *results = &r->results;
+    for (unsigned k = 0; results->fault[0] == '\0' && k < results->case_count; k++)
+        if (results->cases[k].base == c->base && results->cases[k].degree == c->degree) return 1;
+    return 0;
+}
+
+/* Whether a case is of a degree that came after this release: it has no case of it, and those that have are later. */
+static int came_after(const struct row *row, unsigned k) {
+    const char *committed = releases[k]->results.fact[COMMITTED];
+    if (has_kind(releases[k], row->any)) return 0;
+    for (unsigned other = 0; other < release_count; other++)
+        if (has_kind(releases[other], row->any) && strcmp(committed, releases[other]->results.fact[COMMITTED]) >= 0)
+            return 0;
+    return 1;
+}
+
 static void mark_release(unsigned k) {
     struct release *r = releases[k];
     if (r->results.fault[0] != '\0') {
@@ -98,23 +116,28 @@ static void mark_release(unsigned k) {
         if (row->of[k] != NULL) mark_runs(r, row->of[k]);
     for (const struct row *row = rows; row < rows + row_count; row++) {
         char title[MOST_WORDS];
-        if (row->of[k] != NULL) continue;
+        if (row->of[k] != NULL || came_after(row, k)) continue;
         case_title(row->any, title);
         mark(r, "lacks the case %s", title);
         r->lacking = 1;
     }
 }
 
+static int has_yardstick(const struct release *r, unsigned degree) {
+    return r->results.fault[0] == '\0' && yardstick_of(&r->results, degree)[0] != '\0';
+}
+
 /* A ratio means something beside another only if both are to the same plain walk: the newest's. */
-static void mark_yardsticks(void) {
+static void mark_yardsticks(unsigned degree) {
     const struct release *newest = NULL;
     for (unsigned k = 0; k < release_count; k++)
-        if (releases[k]->results.fault[0] == '\0') newest = releases[k];
+        if (has_yardstick(releases[k], degree)) newest = releases[k];
     for (unsigned k = 0; newest != NULL && k < release_count; k++) {
         struct release *r = releases[k];
-        if (r->results.fault[0] != '\0') continue;
-        if (strcmp(r->results.fact[YARDSTICK], newest->results.fact[YARDSTICK]) == 0) continue;
-        mark(r, "measured against another plain walk than release %s: measure it again", name_of(newest));
+        if (!has_yardstick(r, degree)) continue;
+        if (strncmp(yardstick_of(&r->results, degree), yardstick_of(&newest->results, degree), SUM_DIGITS) == 0) continue;
+        mark(r, "measured against another plain walk%s than release %s: measure it again",
+             degree == 3 ? " of degree 3" : "", name_of(newest));
         r->faulty = 1;
     }
 }
@@ -186,7 +209,8 @@ void read_releases(int count, char **paths) {
     find_cases();
     for (unsigned k = 0; k < release_count; k++)
         mark_release(k);
-    mark_yardsticks();
+    mark_yardsticks(2);
+    mark_yardsticks(3);
     for (unsigned a = 0; a < release_count; a++)
         for (unsigned b = a + 1; b < release_count; b++)
             mark_disagreement(a, b);
@@ -221,45 +245,57 @@ static int judge_ratios(struct ratio now, struct ratio before) {
     return now.middle < before.middle ? FASTER : SLOWER;
 }
 
-const char *judged(const struct row *row, unsigned k) {
-    return judgements[judge_ratios(ratio_at(row, k), ratio_at(row, k - 1))];
+int good_before(const struct row *row, unsigned k) {
+    while (k-- > 0)
+        if (k < good_count && has_ratio(row, k)) return (int)k;
+    return -1;
 }
 
-/* The good release with the least number. Others may differ from it by nothing. */
-static unsigned least_at(const struct row *row) {
-    unsigned least = 0;
-    for (unsigned k = 1; k < good_count; k++)
-        if (ratio_at(row, k).middle < ratio_at(row, least).middle) least = k;
+const char *judged(const struct row *row, unsigned k) {
+    return judgements[judge_ratios(ratio_at(row, k), ratio_at(row, (unsigned)good_before(row, k)))];
+}
+
+/* The good release with the least number, if this one has any. Others may differ from it by nothing. */
+static unsigned least_at(const struct row *row, unsigned least) {
+    for (unsigned k = 0; k < good_count; k++)
+        if (has_ratio(row, k) && ratio_at(row, k).middle < ratio_at(row, least).middle) least = k;
     return least;
 }
 
 int is_best(const struct row *row, unsigned k) {
     int slower = 0;
-    if (k >= good_count || judge_ratios(ratio_at(row, least_at(row)), ratio_at(row, k)) != NO_DIFFERENCE) return 0;
+    if (k >= good_count || !has_ratio(row, k)) return 0;
+    if (judge_ratios(ratio_at(row, least_at(row, k)), ratio_at(row, k)) != NO_DIFFERENCE) return 0;
     for (unsigned other = 0; other < good_count; other++)
-        slower = slower || judge_ratios(ratio_at(row, k), ratio_at(row, other)) == FASTER;
+        slower = slower || (has_ratio(row, other) && judge_ratios(ratio_at(row, k), ratio_at(row, other)) == FASTER);
     return slower;
 }
 
-/* One line: the last good release against an earlier good one. */
+/* One line: the last good release against an earlier good one, over the cases that both have. */
 static void write_summary(char text[MOST_MARK], unsigned before) {
-    unsigned last = good_count - 1, count[JUDGEMENTS] = {0};
+    unsigned last = good_count - 1, cases = 0, count[JUDGEMENTS] = {0};
     double log_now = 0, log_before = 0;
     int length;
     for (const struct row *row = rows; row < rows + row_count; row++) {
+        if (!has_ratio(row, last) || !has_ratio(row, before)) continue;
+        cases++;
         count[judge_ratios(ratio_at(row, last), ratio_at(row, before))]++;
-        log_now += log(ratio_at(row, last).middle) / row_count;
-        log_before += log(ratio_at(row, before).middle) / row_count;
+        log_now += log(ratio_at(row, last).middle);
+        log_before += log(ratio_at(row, before).middle);
     }
-    length = snprintf(text, MOST_MARK, "%c %s against %c %s, %u cases:", letter(last), name_of(releases[last]),
-                      letter(before), name_of(releases[before]), row_count);
+    length = snprintf(text, MOST_MARK, "%c %s against %c %s, %u cases", letter(last), name_of(releases[last]),
+                      letter(before), name_of(releases[before]), cases);
+    if (cases < row_count)
+        length += snprintf(text + length, MOST_MARK - (size_t)length, " (%u more of a degree that came later)",
+                           row_count - cases);
+    length += snprintf(text + length, MOST_MARK - (size_t)length, ":");
     for (int k = 0; k < JUDGEMENTS; k++)
         if (count[k] > 0)
             length += snprintf(text + length, MOST_MARK - (size_t)length, " %s in %u,", judgements[k], count[k]);
     text[--length] = '.'; /* the last comma */
     if (count[FASTER] + count[SLOWER] > 0)
         snprintf(text + length, MOST_MARK - (size_t)length, "; %.2f of its time on (geometric) average.",
-                 exp(log_now - log_before));
+                 exp((log_now - log_before) / cases));
 }
 
 unsigned summarise(char lines[2][MOST_MARK]) {
@@ -275,7 +311,7 @@ unsigned summarise(char lines[2][MOST_MARK]) {
 
 const char *words_at(const struct row *row, unsigned k) {
     if (releases[k]->results.fault[0] != '\0') return releases[k]->results.fault;
-    if (row->of[k] == NULL) return "no such case";
+    if (row->of[k] == NULL) return came_after(row, k) ? "of a degree that came later" : "no such case";
     if (!row->of[k]->run[LIBRARY].present) return "no run of the library";
     if (!row->of[k]->run[LIBRARY].has_number) return row->of[k]->run[LIBRARY].verdict;
     return "ended, but the release is marked";

@@ -29,11 +29,13 @@ int is_marked(const struct release *r);
 const char *name_of(const struct release *r);
 char letter(unsigned k);
 
-/* Whether a release's number of a case may be shown (the good ones' all may), and the number. */
+/* Whether a release's number of a case may be shown, and the number. The good ones have all but those of a degree that came
+ * after them. */
 int has_ratio(const struct row *row, unsigned k);
 struct ratio ratio_at(const struct row *row, unsigned k);
 
-/* A good release against the good one before it, in words. */
+/* The good release before a good one that has a number of the case too, or -1; and the two compared, in words. */
+int good_before(const struct row *row, unsigned k);
 const char *judged(const struct row *row, unsigned k);
 
 /* Best: none of the good ones is faster, and one is slower. */

@@ -101,18 +101,33 @@ static int is_sum(const char *text, size_t length) {
     return strlen(text) == length && text[strspn(text, "0123456789abcdef")] == '\0';
 }
 
+static int is_earlier(const struct results *results) { return strcmp(results->fact[VERSION], RESULTS_EARLIER) == 0; }
+
+/* Two sums with a space between them, of degree 2 and of degree 3; an earlier file has the first. */
+static int are_yardsticks(const char *text) {
+    char first[SUM_DIGITS + 1] = "";
+    if (is_earlier(now)) return is_sum(text, SUM_DIGITS);
+    strncpy(first, text, SUM_DIGITS);
+    return is_sum(first, SUM_DIGITS) && text[SUM_DIGITS] == ' ' && is_sum(text + SUM_DIGITS + 1, SUM_DIGITS);
+}
+
+const char *yardstick_of(const struct results *results, unsigned degree) {
+    if (degree == 2) return results->fact[YARDSTICK];
+    return is_earlier(results) ? "" : results->fact[YARDSTICK] + SUM_DIGITS + 1;
+}
+
 static int is_one_of(const char *text, const char *a, const char *b, const char *c) {
     return strcmp(text, a) == 0 || strcmp(text, b) == 0 || strcmp(text, c) == 0;
 }
 
 static void check_fact(int k, const char *text) {
     int right = 1;
-    if (k == VERSION && strcmp(text, RESULTS_VERSION) != 0)
-        bad("version %.20s; version %s is read here", text, RESULTS_VERSION);
+    if (k == VERSION && strcmp(text, RESULTS_VERSION) != 0 && !is_earlier(now))
+        bad("version %.20s; versions %s and %s are read here", text, RESULTS_EARLIER, RESULTS_VERSION);
     if (k == RELEASE) right = strlen(text) <= MOST_NAME;
     if (k == COMMIT || k == BENCH) right = is_sum(text, 40) || strcmp(text, "unknown") == 0;
     if (k == COMMITTED) right = is_moment(text) || strcmp(text, "unknown") == 0;
-    if (k == YARDSTICK) right = is_sum(text, 12);
+    if (k == YARDSTICK) right = are_yardsticks(text);
     if (k == TREE) right = is_one_of(text, "clean", "changed", "unknown");
     if (k == DATE) right = is_moment(text);
     if (k == SEED) whole(text, 0, UINT64_MAX - 1);
@@ -151,6 +166,7 @@ static void read_case(void) {
     c->base = (unsigned)whole(field[3], 3, 5);
     c->degree = (unsigned)whole(field[4], 2, 3);
     if (c->base == 4) bad("the number 4 is out of its range");
+    if (c->degree > 2 && is_earlier(now)) bad("degree 3 in a file that has no yardstick for it");
     c->n = (unsigned)whole(field[5], 1, c->base == 3 ? 20 : 13);
     c->m = (unsigned)whole(field[6], 1, 256);
     take_text(c->detail, field[7]);

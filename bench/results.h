@@ -44,6 +44,10 @@ void read_results(const char *path, struct results *results);
 
 int same_case(const struct bench_case *a, const struct bench_case *b);
 
+/* The checksum of the yardstick of a degree, 12 digits; empty: the file has none. */
+const char *yardstick_of(const struct results *results, unsigned degree);
+enum { SUM_DIGITS = 12 };
+
 /* "whole walk, n = 14, m = 2, many zeros", short enough for a line. */
 void case_title(const struct bench_case *c, char title[MOST_WORDS]);
 

@@ -11,6 +11,7 @@
 #include "format.h"
 #include "../tests/reference/interface.h"
 #include "../tests/reference/random.h"
+#include "rule.h"
 #include "walks.h"
 
 #include <inttypes.h>
@@ -24,18 +25,23 @@
 #include <unistd.h>
 
 search_function plain_gcc, unrolled_gcc, plain_clang, unrolled_clang;
-evaluate_function evaluate_gcc, evaluate_clang;
+search_function plain_cubic_gcc, unrolled_cubic_gcc, plain_cubic_clang, unrolled_cubic_clang;
+evaluate_function evaluate_gcc, evaluate_clang, evaluate_cubic_gcc, evaluate_cubic_clang;
 
-static const struct engine { search_function *search; evaluate_function *evaluate; } engines[ENGINES] = {
-    [PLAIN] = {plain_gcc, evaluate_gcc}, [UNROLLED] = {unrolled_gcc, NULL}, /* NULL: not there */
+/* For each degree, 2 and 3. NULL: not there. */
+struct engine { search_function *search; evaluate_function *evaluate; };
+static const struct engine engines[ENGINES][2] = {
+    [PLAIN] = {{plain_gcc, evaluate_gcc}, {plain_cubic_gcc, evaluate_cubic_gcc}},
+    [UNROLLED] = {{unrolled_gcc, NULL}, {unrolled_cubic_gcc, NULL}},
 #ifdef HAVE_CLANG
-    [PLAIN_CLANG] = {plain_clang, evaluate_clang}, [UNROLLED_CLANG] = {unrolled_clang, NULL},
+    [PLAIN_CLANG] = {{plain_clang, evaluate_clang}, {plain_cubic_clang, evaluate_cubic_clang}},
+    [UNROLLED_CLANG] = {{unrolled_clang, NULL}, {unrolled_cubic_clang, NULL}},
 #endif
-    [LIBRARY] = {vayudrit_search, vayudrit_evaluate},
+    [LIBRARY] = {{vayudrit_search, vayudrit_evaluate}, {vayudrit_search, vayudrit_evaluate}},
 };
 /* A round: the library directly after its yardstick. */
 static const unsigned turns[ENGINES] = {PLAIN, LIBRARY, UNROLLED, PLAIN_CLANG, UNROLLED_CLANG};
-enum { BASE = 3, DEGREE = 2, MOST_STARTS = 1000, SHORT_LIST = 4096 };
+enum { BASE = 3, MOST_STARTS = 1000, SHORT_LIST = 4096 };
 
 /* ---- rows ---- */
 
@@ -51,46 +57,76 @@ enum mode { TINY = 1, QUICK = 2, USUAL = 4, LONG = 8 };
  * many ("list") are not 0. */
 static const struct row {
     const char *name;
-    unsigned n, m;
+    unsigned degree, n, m;
     const char *detail;
     uint64_t budget, list;
     unsigned starts, rounds, modes;
 } rows[] = {
-    {"whole walk", 7, 7, "few zeros", ALL, SHORT_LIST, 0, 2, TINY},
-    {"whole walk", 7, 2, "many zeros", ALL, ALL, 0, 2, TINY},
-    {"list of one", 7, 3, "many zeros", ALL, 1, 0, 2, TINY},
-    {"budget of 100", 7, 7, "few zeros", 100, SHORT_LIST, 0, 2, TINY},
-    {"one point a call", 20, 20, "few zeros", 1, SHORT_LIST, 10, 2, TINY},
-    {"evaluation", 20, 64, "13 unknowns not 0", EVALUATE, 13, 10, 2, TINY},
+    {"whole walk", 2, 7, 7, "few zeros", ALL, SHORT_LIST, 0, 2, TINY},
+    {"whole walk", 2, 7, 2, "many zeros", ALL, ALL, 0, 2, TINY},
+    {"list of one", 2, 7, 3, "many zeros", ALL, 1, 0, 2, TINY},
+    {"budget of 100", 2, 7, 7, "few zeros", 100, SHORT_LIST, 0, 2, TINY},
+    {"one point a call", 2, 20, 20, "few zeros", 1, SHORT_LIST, 10, 2, TINY},
+    {"evaluation", 2, 20, 64, "13 unknowns not 0", EVALUATE, 13, 10, 2, TINY},
+    {"whole walk", 3, 7, 7, "few zeros", ALL, SHORT_LIST, 0, 2, TINY},
+    {"whole walk", 3, 7, 2, "many zeros", ALL, ALL, 0, 2, TINY},
+    {"list of one", 3, 7, 3, "many zeros", ALL, 1, 0, 2, TINY},
+    {"budget of 100", 3, 7, 7, "few zeros", 100, SHORT_LIST, 0, 2, TINY},
+    {"one point a call", 3, 20, 20, "few zeros", 1, SHORT_LIST, 10, 2, TINY},
+    {"evaluation", 3, 20, 64, "13 unknowns not 0", EVALUATE, 13, 10, 2, TINY},
 
-    {"whole walk", 12, 12, "few zeros", ALL, SHORT_LIST, 0, 15, QUICK},
-    {"whole walk", 12, 2, "many zeros", ALL, ALL, 0, 15, QUICK},
-    {"list of one", 12, 12, "few zeros", ALL, 1, 0, 15, QUICK},
-    {"list of one", 8, 3, "many zeros", ALL, 1, 0, 15, QUICK},
-    {"budget of 1000", 12, 12, "few zeros", 1000, SHORT_LIST, 0, 15, QUICK},
-    {"budget of 1", 8, 8, "few zeros", 1, SHORT_LIST, 0, 15, QUICK},
-    {"one point a call", 20, 20, "few zeros", 1, SHORT_LIST, 200, 15, QUICK},
-    {"evaluation", 20, 64, "13 unknowns not 0", EVALUATE, 13, 200, 15, QUICK},
+    {"whole walk", 2, 12, 12, "few zeros", ALL, SHORT_LIST, 0, 15, QUICK},
+    {"whole walk", 2, 12, 2, "many zeros", ALL, ALL, 0, 15, QUICK},
+    {"list of one", 2, 12, 12, "few zeros", ALL, 1, 0, 15, QUICK},
+    {"list of one", 2, 8, 3, "many zeros", ALL, 1, 0, 15, QUICK},
+    {"budget of 1000", 2, 12, 12, "few zeros", 1000, SHORT_LIST, 0, 15, QUICK},
+    {"budget of 1", 2, 8, 8, "few zeros", 1, SHORT_LIST, 0, 15, QUICK},
+    {"one point a call", 2, 20, 20, "few zeros", 1, SHORT_LIST, 200, 15, QUICK},
+    {"evaluation", 2, 20, 64, "13 unknowns not 0", EVALUATE, 13, 200, 15, QUICK},
+    {"whole walk", 3, 12, 12, "few zeros", ALL, SHORT_LIST, 0, 15, QUICK},
+    {"whole walk", 3, 12, 2, "many zeros", ALL, ALL, 0, 15, QUICK},
+    {"list of one", 3, 8, 3, "many zeros", ALL, 1, 0, 15, QUICK},
+    {"budget of 1000", 3, 12, 12, "few zeros", 1000, SHORT_LIST, 0, 15, QUICK},
+    {"one point a call", 3, 20, 20, "few zeros", 1, SHORT_LIST, 50, 15, QUICK},
+    {"evaluation", 3, 20, 64, "13 unknowns not 0", EVALUATE, 13, 200, 15, QUICK},
 
-    {"whole walk", 14, 14, "few zeros", ALL, SHORT_LIST, 0, 40, USUAL | LONG},
-    {"whole walk", 15, 15, "few zeros", ALL, SHORT_LIST, 0, 30, USUAL | LONG},
-    {"whole walk", 16, 16, "few zeros", ALL, SHORT_LIST, 0, 20, USUAL | LONG},
-    {"whole walk", 17, 17, "few zeros", ALL, SHORT_LIST, 0, 9, USUAL | LONG},
-    {"whole walk", 18, 18, "few zeros", ALL, SHORT_LIST, 0, 5, USUAL | LONG},
-    {"whole walk", 20, 20, "few zeros", ALL, SHORT_LIST, 0, 3, LONG},
-    {"whole walk", 14, 1, "many zeros", ALL, ALL, 0, 30, USUAL | LONG},
-    {"whole walk", 14, 2, "many zeros", ALL, ALL, 0, 30, USUAL | LONG},
-    {"whole walk", 16, 2, "many zeros", ALL, ALL, 0, 9, USUAL | LONG},
-    {"whole walk", 20, 6, "many zeros", ALL, ALL, 0, 3, LONG},
-    {"list of one", 16, 16, "few zeros", ALL, 1, 0, 20, USUAL | LONG},
-    {"list of one", 10, 3, "many zeros", ALL, 1, 0, 20, USUAL | LONG},
-    {"budget of 1000", 14, 14, "few zeros", 1000, SHORT_LIST, 0, 30, USUAL | LONG},
-    {"budget of 1", 10, 10, "few zeros", 1, SHORT_LIST, 0, 20, USUAL | LONG},
-    {"one point a call", 20, 20, "few zeros", 1, SHORT_LIST, 1000, 30, USUAL | LONG},
-    {"evaluation", 20, 64, "20 unknowns not 0", EVALUATE, 20, 1000, 50, USUAL | LONG},
-    {"evaluation", 20, 64, "13 unknowns not 0", EVALUATE, 13, 1000, 50, USUAL | LONG},
-    {"evaluation", 20, 64, "5 unknowns not 0", EVALUATE, 5, 1000, 50, USUAL | LONG},
-    {"evaluation", 20, 64, "0 unknowns not 0", EVALUATE, 0, 1000, 50, USUAL | LONG},
+    {"whole walk", 2, 14, 14, "few zeros", ALL, SHORT_LIST, 0, 40, USUAL | LONG},
+    {"whole walk", 2, 15, 15, "few zeros", ALL, SHORT_LIST, 0, 30, USUAL | LONG},
+    {"whole walk", 2, 16, 16, "few zeros", ALL, SHORT_LIST, 0, 20, USUAL | LONG},
+    {"whole walk", 2, 17, 17, "few zeros", ALL, SHORT_LIST, 0, 9, USUAL | LONG},
+    {"whole walk", 2, 18, 18, "few zeros", ALL, SHORT_LIST, 0, 5, USUAL | LONG},
+    {"whole walk", 2, 20, 20, "few zeros", ALL, SHORT_LIST, 0, 3, LONG},
+    {"whole walk", 2, 14, 1, "many zeros", ALL, ALL, 0, 30, USUAL | LONG},
+    {"whole walk", 2, 14, 2, "many zeros", ALL, ALL, 0, 30, USUAL | LONG},
+    {"whole walk", 2, 16, 2, "many zeros", ALL, ALL, 0, 9, USUAL | LONG},
+    {"whole walk", 2, 20, 6, "many zeros", ALL, ALL, 0, 3, LONG},
+    {"list of one", 2, 16, 16, "few zeros", ALL, 1, 0, 20, USUAL | LONG},
+    {"list of one", 2, 10, 3, "many zeros", ALL, 1, 0, 20, USUAL | LONG},
+    {"budget of 1000", 2, 14, 14, "few zeros", 1000, SHORT_LIST, 0, 30, USUAL | LONG},
+    {"budget of 1", 2, 10, 10, "few zeros", 1, SHORT_LIST, 0, 20, USUAL | LONG},
+    {"one point a call", 2, 20, 20, "few zeros", 1, SHORT_LIST, 1000, 30, USUAL | LONG},
+    {"evaluation", 2, 20, 64, "20 unknowns not 0", EVALUATE, 20, 1000, 50, USUAL | LONG},
+    {"evaluation", 2, 20, 64, "13 unknowns not 0", EVALUATE, 13, 1000, 50, USUAL | LONG},
+    {"evaluation", 2, 20, 64, "5 unknowns not 0", EVALUATE, 5, 1000, 50, USUAL | LONG},
+    {"evaluation", 2, 20, 64, "0 unknowns not 0", EVALUATE, 0, 1000, 50, USUAL | LONG},
+
+    {"whole walk", 3, 13, 13, "few zeros", ALL, SHORT_LIST, 0, 40, USUAL | LONG},
+    {"whole walk", 3, 14, 14, "few zeros", ALL, SHORT_LIST, 0, 30, USUAL | LONG},
+    {"whole walk", 3, 15, 15, "few zeros", ALL, SHORT_LIST, 0, 20, USUAL | LONG},
+    {"whole walk", 3, 16, 16, "few zeros", ALL, SHORT_LIST, 0, 15, USUAL | LONG},
+    {"whole walk", 3, 17, 17, "few zeros", ALL, SHORT_LIST, 0, 7, USUAL | LONG},
+    {"whole walk", 3, 18, 18, "few zeros", ALL, SHORT_LIST, 0, 5, USUAL | LONG},
+    {"whole walk", 3, 20, 20, "few zeros", ALL, SHORT_LIST, 0, 3, LONG},
+    {"whole walk", 3, 14, 1, "many zeros", ALL, ALL, 0, 20, USUAL | LONG},
+    {"whole walk", 3, 14, 2, "many zeros", ALL, ALL, 0, 20, USUAL | LONG},
+    {"list of one", 3, 15, 15, "few zeros", ALL, 1, 0, 15, USUAL | LONG},
+    {"list of one", 3, 10, 3, "many zeros", ALL, 1, 0, 15, USUAL | LONG},
+    {"budget of 1000", 3, 14, 14, "few zeros", 1000, SHORT_LIST, 0, 20, USUAL | LONG},
+    {"one point a call", 3, 20, 20, "few zeros", 1, SHORT_LIST, 300, 30, USUAL | LONG},
+    {"evaluation", 3, 20, 64, "20 unknowns not 0", EVALUATE, 20, 1000, 30, USUAL | LONG},
+    {"evaluation", 3, 20, 64, "13 unknowns not 0", EVALUATE, 13, 1000, 30, USUAL | LONG},
+    {"evaluation", 3, 20, 64, "5 unknowns not 0", EVALUATE, 5, 1000, 30, USUAL | LONG},
+    {"evaluation", 3, 20, 64, "0 unknowns not 0", EVALUATE, 0, 1000, 30, USUAL | LONG},
 };
 
 static int job_of(const struct row *row) {
@@ -101,6 +137,7 @@ static int job_of(const struct row *row) {
 
 struct task {
     const struct row *row;
+    size_t words;               /* of a table */
     unsigned starts;            /* records, 1 or more */
     uint64_t end;               /* 3^n */
     uint64_t points, additions; /* of a run that does all */
@@ -121,23 +158,24 @@ static void seed_row(const struct row *row, uint64_t seed) {
     random_state = seed;
     for (const char *c = row->name; *c != '\0'; c++)
         random_state = random_word() ^ (unsigned char)*c;
-    random_state = random_word() ^ (row->n << 8 | row->m);
+    random_state = random_word() ^ ((row->degree - 2) << 16 | row->n << 8 | row->m);
     if (job_of(row) == EVALUATIONS) random_state += row->list;
 }
 
 static void open_at(const struct task *t, uint64_t place, uint64_t *record) {
     const struct row *row = t->row;
-    if (reference_open(row->n, row->m, t->table, 2 * monomials(row->n), place, record,
-                       RECORD_WORDS) != 0)
+    if (reference_open(row->n, row->m, t->table, t->words, place, record, RECORD_WORDS) != 0)
         stop_bench("the reference does not open the record");
 }
 
+static void set_coefficients(struct task *t) {
+    if (reference_coefficients(t->row->n, t->row->m, t->table, t->words, t->coefficients, t->words) != 0)
+        stop_bench("the reference does not turn the table");
+}
+
 /* The system at a point, high then low, by the reference. */
-static void value_at(struct task *t, uint64_t point, uint64_t value[2]) {
-    uint64_t n = t->row->n, m = t->row->m;
-    size_t size = 2 * monomials(n);
-    if (reference_coefficients(n, m, t->table, size, t->coefficients, size) != 0
-        || reference_evaluate(n, m, t->coefficients, size, point, value, 2) != 0)
+static void value_at(const struct task *t, uint64_t point, uint64_t value[2]) {
+    if (reference_evaluate(t->row->n, t->row->m, t->coefficients, t->words, point, value, 2) != 0)
         stop_bench("the reference does not evaluate the system");
 }
 
@@ -145,7 +183,7 @@ static void value_at(struct task *t, uint64_t point, uint64_t value[2]) {
  * system. The constant is then set so that a random point is a zero. */
 static void draw_table(struct task *t) {
     uint64_t value[2];
-    for (size_t k = 0; k < 2 * monomials(t->row->n); k += 2) {
+    for (size_t k = 0; k < t->words; k += 2) {
         t->table[k] = t->table[k + 1] = 0;
         for (unsigned e = 0; k > 0 && e < t->row->m; e++) {
             uint64_t trit = random_word() % 3;
@@ -153,9 +191,11 @@ static void draw_table(struct task *t) {
             t->table[k + 1] |= (uint64_t)(trit == 2) << e;
         }
     }
+    set_coefficients(t);
     value_at(t, random_word() % t->end, value);
     t->table[0] = value[0];
     t->table[1] = value[0] ^ value[1]; /* the negative */
+    set_coefficients(t);
 }
 
 /* A point with so many unknowns that are not 0. */
@@ -189,7 +229,7 @@ static void set_walk(struct task *t) {
     const struct row *row = t->row;
     t->starts = row->starts > 0 ? row->starts : 1;
     t->points = row->starts > 0 ? row->starts : t->end;
-    t->additions = row->starts > 0 ? 0 : 2 * (t->end - 1) - row->n;
+    t->additions = row->starts > 0 ? 0 : additions_of_walk(BASE, row->degree, row->n);
     t->capacity = SHORT_LIST + (row->n > row->m ? 2 * power_of_three(row->n - row->m) : 0);
     t->list = NULL;
     open_at(t, 0, t->before[0]);
@@ -198,12 +238,13 @@ static void set_walk(struct task *t) {
         uint64_t place = s + 1 < row->starts ? 1 + random_word() % (t->end - 2) : t->end - 1;
         open_at(t, place, t->before[s]);
         open_at(t, place + 1, t->after[s]);
-        t->additions += cost_of(place);
+        t->additions += cost_of(place, row->degree);
     }
 }
 
 static void set_task(struct task *t, const struct row *row) {
     t->row = row;
+    t->words = 2 * monomials(row->n, row->degree);
     t->end = power_of_three(row->n);
     draw_table(t);
     if (job_of(row) == EVALUATIONS) set_evaluations(t);
@@ -229,7 +270,7 @@ static int call(const struct task *t, search_function *search, uint64_t *record,
                 uint64_t length) {
     const struct row *row = t->row;
     uint64_t answer[ANSWER_WORDS], from = record[RECORD_PLACE];
-    r->refusal = search(row->n, row->m, (const uint8_t *)t->table, 16 * monomials(row->n),
+    r->refusal = search(row->n, row->m, (const uint8_t *)t->table, 8 * t->words,
                         (uint8_t *)record, 8 * RECORD_WORDS, row->budget,
                         (uint8_t *)(r->list + r->found), 8 * length, (uint8_t *)answer, 40);
     if (r->refusal != 0) return RUN_REFUSED;
@@ -256,7 +297,7 @@ static int goes_on(const struct task *t, const struct report *r, int stop, uint6
 static int evaluate(const struct task *t, evaluate_function *evaluate, struct report *r) {
     for (unsigned s = 0; s < t->starts; s++) {
         uint64_t *value = r->list + 2 * s;
-        r->refusal = evaluate(t->row->n, t->row->m, t->coefficients, 2 * monomials(t->row->n), t->at[s], value, 2);
+        r->refusal = evaluate(t->row->n, t->row->m, t->coefficients, t->words, t->at[s], value, 2);
         if (r->refusal != 0) return RUN_REFUSED;
         r->points++;
         r->found += value[0] == 0;
@@ -284,11 +325,11 @@ static void warm_up(const struct task *t, const struct engine *engine) {
     const struct row *row = t->row;
     uint64_t record[RECORD_WORDS], list[2], answer[ANSWER_WORDS];
     if (job_of(row) == EVALUATIONS) {
-        engine->evaluate(row->n, row->m, t->coefficients, 2 * monomials(row->n), t->at[0], list, 2);
+        engine->evaluate(row->n, row->m, t->coefficients, t->words, t->at[0], list, 2);
         return;
     }
     memcpy(record, t->before[0], sizeof record);
-    engine->search(row->n, row->m, (const uint8_t *)t->table, 16 * monomials(row->n), (uint8_t *)record,
+    engine->search(row->n, row->m, (const uint8_t *)t->table, 8 * t->words, (uint8_t *)record,
                    sizeof record, 1, (uint8_t *)list, sizeof list, (uint8_t *)answer, sizeof answer);
 }
 
@@ -390,17 +431,20 @@ static void print_result(const char *engine, const struct result *result, unsign
     putchar('\n');
 }
 
-static int has_job(const struct engine *engine, const struct row *row) {
+static const struct engine *engine_of(unsigned k, const struct row *row) { return &engines[k][row->degree - 2]; }
+
+static int has_job(unsigned k, const struct row *row) {
+    const struct engine *engine = engine_of(k, row);
     return job_of(row) == EVALUATIONS ? engine->evaluate != NULL : engine->search != NULL;
 }
 
 static void print_row(const struct task *t, const struct result *results, unsigned rounds) {
     const struct row *row = t->row;
-    printf("case\t%s\t%s\t%d\t%d\t%u\t%u\t%s\t%" PRIu64 "\t%u\n", row->name,
-           job_names[job_of(row)], BASE, DEGREE, row->n, row->m, row->detail,
+    printf("case\t%s\t%s\t%d\t%u\t%u\t%u\t%s\t%" PRIu64 "\t%u\n", row->name,
+           job_names[job_of(row)], BASE, row->degree, row->n, row->m, row->detail,
            t->points, rounds);
     for (unsigned k = 0; k < ENGINES; k++)
-        if (has_job(&engines[k], row)) print_result(engine_names[k], &results[k], rounds);
+        if (has_job(k, row)) print_result(engine_names[k], &results[k], rounds);
     if (fflush(stdout) != 0) stop_bench("the results cannot be written");
 }
 
@@ -419,13 +463,13 @@ static void run_row(const struct row *row, const struct options *o) {
     r = mmap(NULL, size, PROT_READ | PROT_WRITE, MAP_SHARED | MAP_ANONYMOUS, -1, 0);
     if (r == MAP_FAILED) stop_bench("no memory");
     if (job_of(row) != EVALUATIONS) {
-        run(&t, &engines[PLAIN], r, o->limit);
+        run(&t, engine_of(PLAIN, row), r, o->limit);
         take_yardstick(&t, r);
     }
     for (unsigned k = 0; k < rounds * ENGINES; k++) {
         unsigned engine = turns[k % ENGINES];
-        if (has_job(&engines[engine], row))
-            run_round(&t, &engines[engine], r, &results[engine], k / ENGINES, o->limit);
+        if (has_job(engine, row))
+            run_round(&t, engine_of(engine, row), r, &results[engine], k / ENGINES, o->limit);
     }
     print_row(&t, results, rounds);
     free(t.list);
@@ -461,7 +505,7 @@ int main(int count, char **given) {
     unsigned done = 0;
     for (const struct row *row = rows; row < rows + sizeof rows / sizeof *rows; row++) {
         if ((row->modes & o.mode) == 0) continue;
-        fprintf(stderr, "%s, n = %u, m = %u\n", row->name, row->n, row->m);
+        fprintf(stderr, "%s, n = %u, m = %u, degree %u\n", row->name, row->n, row->m, row->degree);
         run_row(row, &o);
         done++;
     }

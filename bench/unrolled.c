@@ -3,9 +3,7 @@
  * head, the place 3k+1 has the positions 0 and that of 3k, the place 3k+2 has 0 and 0, and so on
  * one level up. A block in which the list would fill up is undone and walked place by place, as
  * are the places before the first whole block, of that one, and after the last. */
-#include "walks.h"
-
-enum { BLOCK = 81, LEVELS = 4 };
+#include "blocks.h"
 
 search_function WALK; /* the function's name, given when compiling */
 
@@ -22,19 +20,6 @@ search_function WALK; /* the function's name, given when compiling */
     WALK_27(0, x0h, x1h, x2h) MOVE(3, x3h) WALK_27(27, x03, x13, x23) \
     MOVE(3, x33) WALK_27(54, x03, x13, x23)
 #define ENTRY(b, c) const vector x##b##c = entry(n, table, b, c);
-
-/* Lists the points of a block's hits: those of the head but for the lowest digits, which depend
- * on the place in the block and on the head's digit above. */
-static void list_hits(struct walk *w, uint8_t *list, const uint8_t *hits, const uint8_t *end) {
-    static uint8_t lowest[3 * BLOCK]; /* of the point of a place below 3 * BLOCK */
-    uint64_t blocks = w->at.place / BLOCK, above = BLOCK * point_of(blocks);
-    const uint8_t *low = lowest + blocks % 3 * BLOCK;
-    if (lowest[1] == 0)
-        for (unsigned k = 0; k < sizeof lowest; k++)
-            lowest[k] = (uint8_t)(point_of(k) % BLOCK);
-    for (; hits < end; hits++)
-        list_point(w, list, above + low[*hits]);
-}
 
 /* Walks blocks from the head of one, while they end at or before the limit and leave an entry of
  * the list free. */

@@ -1,11 +1,11 @@
-/* Holds the two C walks against the reference: random small systems, walked to the end by calls
- * of random budgets and lists; answers, records and whole lists must be the same after each. */
+/* Holds the C walks of both degrees against the reference: random small systems, walked to the end by
+ * calls of random budgets and lists; answers, records and whole lists must be the same after each. */
 #include "walks.h"
 
 #include <stdio.h>
 #include <stdlib.h>
 
-search_function plain, unrolled;
+search_function plain, unrolled, plain_cubic, unrolled_cubic;
 
 enum { LENT = 300 };
 
@@ -18,11 +18,11 @@ static uint64_t below(uint64_t bound) { /* a random number below the bound */
 
 struct lent { uint8_t record[8 * RECORD_WORDS], list[8 * LENT], answer[8 * ANSWER_WORDS]; };
 
-static void walk_system(uint64_t n, uint64_t m, search_function *walk) {
+static void walk_system(uint64_t n, uint64_t m, unsigned degree, search_function *walk) {
     uint64_t table[2 * MOST_MONOMIALS] = {0};
-    size_t size = 16 * monomials(n);
+    size_t size = 16 * monomials(n, degree);
     struct lent ours = {{0}, {0}, {1}}, theirs;
-    for (size_t k = 0; k < monomials(n); k++)
+    for (size_t k = 0; k < monomials(n, degree); k++)
         for (uint64_t e = 0, full = below(4); e < m; e++) {
             uint64_t trit = full > 0 ? below(3) : 0;
             table[2 * k] |= (uint64_t)(trit > 0) << e;
@@ -37,7 +37,7 @@ static void walk_system(uint64_t n, uint64_t m, search_function *walk) {
         reference_search(n, m, (uint8_t *)table, size, theirs.record, sizeof theirs.record, budget,
                          theirs.list, list_len, theirs.answer, sizeof theirs.answer);
         if (memcmp(&ours, &theirs, sizeof ours) != 0) {
-            printf("a C walk differs from the reference at n = %d, m = %d\n", (int)n, (int)m);
+            printf("a C walk differs from the reference at n = %d, m = %d, degree %u\n", (int)n, (int)m, degree);
             exit(1);
         }
     }
@@ -46,8 +46,11 @@ static void walk_system(uint64_t n, uint64_t m, search_function *walk) {
 int main(void) {
     for (unsigned k = 0; k < 350; k++) {
         uint64_t n = 1 + k % 7, m = below(4) > 0 ? 1 + below(n) : 1 + below(64);
-        walk_system(n, m, plain);
-        walk_system(n, m, unrolled);
+        walk_system(n, m, 2, plain);
+        walk_system(n, m, 2, unrolled);
+        if (n == 1 || k % 2 == 0) continue; /* at n = 1 a record opens as quadratic */
+        walk_system(n, m, 3, plain_cubic);
+        walk_system(n, m, 3, unrolled_cubic);
     }
     puts("the C walks agree with the reference");
     return 0;

@@ -1,5 +1,5 @@
 /*
- * vayudrit.h: all common zeros of systems of polynomials of degree at most 2 over F3, for C and C++.
+ * vayudrit.h: all common zeros of systems of polynomials of degree at most 3 over F3, for C and C++.
  *
  * A system has n unknowns x0 .. x(n-1), 1 to 20, and m equations, 1 to 64. Its 3^n points are walked in ternary Gray
  * order; the search lists each point at which all equations are 0 modulo 3. Link with libvayudrit.a and nothing else
@@ -13,13 +13,26 @@
  * bits from m upward are 0.
  *
  * Monomials stand in this order: the constant; x0 to x(n-1); then for i = 0, 1, .. the products xi*xj for j = i to n-1.
- * There are N = VAYUDRIT_MONOMIALS(n) of them. A word table has 2 N words, high then low for each monomial. There are
- * two kinds, of the same size and order: coefficients, and the differences that the search walks by.
+ * A quadratic table has these, N = VAYUDRIT_MONOMIALS(n) of them. A cubic table has behind them the products xi*xj*xk in
+ * index order, i <= j <= k, never all three equal (x*x*x is x at every point): N = VAYUDRIT_MONOMIALS3(n) in all. At
+ * n = 2 a cubic table has 1, x0, x1, x0*x0, x0*x1, x1*x1, x0*x0*x1, x0*x1*x1.
+ *
+ * A word table has 2 N words, high then low for each monomial. There are two kinds, of the same size and order:
+ * coefficients, and the differences that the search walks by.
+ *
+ * DEGREE
+ *
+ * Every function takes tables of both degrees, and the table's length tells which: VAYUDRIT_TABLE_WORDS(n) is quadratic,
+ * VAYUDRIT_TABLE3_WORDS(n) cubic, any other length is refused. Of two tables lent to one call the first tells, and the
+ * second must have the same length; vayudrit_pack goes by the table that it writes. At n = 1, where there are no products
+ * of three, both lengths are 6 words: such a table is read as quadratic.
  *
  * PLACES AND POINTS
  *
  * A point is numbered x0 + 3 x1 + 9 x2 + .. , 0 to 3^n - 1. A place is a position in the walk, counted from 0; place
- * and point are different numbers and are never taken for each other. 3^n is the place after the last.
+ * and point are different numbers and are never taken for each other. 3^n is the place after the last. The positions of a
+ * place are those of its digits base 3 that are not 0, the lowest first, that of a digit 2 twice: those of 5 are 0, 0, 1.
+ * Moving to a place adds 1 modulo 3 to the unknown at its first position.
  *
  * BUFFERS
  *
@@ -55,8 +68,13 @@ extern "C" {
 #define VAYUDRIT_TABLE_WORDS(n) (2 * VAYUDRIT_MONOMIALS(n))
 #define VAYUDRIT_TABLE_BYTES(n) (16 * VAYUDRIT_MONOMIALS(n))
 #define VAYUDRIT_MAX_TABLE_WORDS 462
-#define VAYUDRIT_RECORD_WORDS 45
-#define VAYUDRIT_RECORD_BYTES 360
+#define VAYUDRIT_MONOMIALS3(n) \
+    (VAYUDRIT_MONOMIALS(n) + (size_t)(n) * ((size_t)(n) + 1) * ((size_t)(n) + 2) / 6 - (size_t)(n))
+#define VAYUDRIT_TABLE3_WORDS(n) (2 * VAYUDRIT_MONOMIALS3(n))
+#define VAYUDRIT_TABLE3_BYTES(n) (16 * VAYUDRIT_MONOMIALS3(n))
+#define VAYUDRIT_MAX_TABLE3_WORDS 3502
+#define VAYUDRIT_RECORD_WORDS 465
+#define VAYUDRIT_RECORD_BYTES 3720
 #define VAYUDRIT_ANSWER_WORDS 5
 #define VAYUDRIT_ANSWER_BYTES 40
 #define VAYUDRIT_MAX_TEXT_BYTES 32768
@@ -67,7 +85,8 @@ extern "C" {
 /* What a function returns. */
 #define VAYUDRIT_DONE 0           /* nothing was refused */
 #define VAYUDRIT_REFUSED_SIZE 1   /* n is not 1 to 20, or m is not 1 to 64 */
-#define VAYUDRIT_REFUSED_LENGTH 2 /* a buffer is not of the exact length, or the list's bytes are no multiple of 8 */
+#define VAYUDRIT_REFUSED_LENGTH 2 /* a table has the length of neither degree, another buffer is not of the exact length,
+                                     or the list's bytes are no multiple of 8 */
 #define VAYUDRIT_REFUSED_PAIR 3   /* a table holds an illegal pair; returned with 256 times the number of its entry */
 #define VAYUDRIT_REFUSED_RANGE 4  /* a place for opening above 3^n; a place or point to convert or to evaluate at of 3^n
                                      or more; a balanced number outside its ends */
@@ -100,8 +119,11 @@ extern "C" {
 /*
  * The search, over bytes. Every word is 8 bytes, the lowest first, whatever the machine.
  *
- *   table    VAYUDRIT_TABLE_BYTES(n) bytes: a table of differences.
- *   record   VAYUDRIT_RECORD_BYTES bytes: the words n, m, place, value high, value low, then high and low of 20 slots.
+ *   table    VAYUDRIT_TABLE_BYTES(n) or VAYUDRIT_TABLE3_BYTES(n) bytes: a table of differences, quadratic or cubic.
+ *   record   VAYUDRIT_RECORD_BYTES bytes, whatever n and the degree: the words n, m, place, value high, value low, then
+ *            high and low of 20 slots, then high and low of 210 second slots, one for each pair b <= c in the order of
+ *            the products at n = 20: (0,0), (0,1), .. (0,19), (1,1), .. (19,19). Those of unknowns that the system lacks
+ *            are 0, and so are all second slots with a quadratic table.
  *            It must be as vayudrit_open or an earlier search of this table left it.
  *   budget   the most points to examine, any number but 0.
  *   list     a multiple of 8 bytes, at least 8, as many as you like: one entry of 8 bytes for each zero found.
@@ -116,8 +138,17 @@ extern "C" {
  * points, in the order of the walk; the bytes after them are as they were. No zero found is no refusal.
  * Refusals: 1, 2, 3, 5, 6, 7.
  *
- * Time: a call first checks the table and the record (some microseconds), then takes nanoseconds a point. A list of any
- * length is filled in that one call; nothing is checked again on the way.
+ * Additions are those of the walk; none is counted for checks. A place costs one for each of its positions, up to 2 with a
+ * quadratic table and up to 3 with a cubic one. A whole walk makes 2 (3^n - 1) - n, or 3 (3^n - 1) - 2 n - n (n + 1) / 2:
+ * at n = 2 these are 14 and 17.
+ *
+ * At n = 1, where the table's length does not tell the degree, the record does: second slot (0,0) is 0 in the quadratic
+ * one and the table's entry of x0*x0 in the cubic one. Either is accepted and comes back moved on as what it was; list,
+ * answer and all else are the same.
+ *
+ * Time: a call first checks the table and the record (some microseconds, at n = 20 up to about twenty with a cubic
+ * table), then takes nanoseconds a point. A list of any length is filled in that one call; nothing is checked again on
+ * the way.
  */
 uint64_t vayudrit_search(uint64_t n, uint64_t m, const uint8_t *table, size_t table_bytes, uint8_t *record,
                          size_t record_bytes, uint64_t budget, uint8_t *list, size_t list_bytes, uint8_t *answer,
@@ -125,20 +156,30 @@ uint64_t vayudrit_search(uint64_t n, uint64_t m, const uint8_t *table, size_t ta
 
 /*
  * Signed coefficients as a word table. rows has m rows of N numbers, row after row in the order of the equations; each
- * number is taken as its remainder 0, 1 or 2 modulo 3 (-1 is 2, -128 is 1). table has 2 N words, written whole.
- * Refusals: 1, 2.
+ * number is taken as its remainder 0, 1 or 2 modulo 3 (-1 is 2, -128 is 1). table has 2 N words, written whole; N is
+ * VAYUDRIT_MONOMIALS(n) or VAYUDRIT_MONOMIALS3(n), and the table's length tells which. Refusals: 1, 2 (rows of the other
+ * degree, too).
  */
 uint64_t vayudrit_pack(uint64_t n, uint64_t m, const int8_t *rows, size_t rows_count, uint64_t *table,
                        size_t table_words);
 
-/* Whether a word table, of either kind, has its length and only legal pairs. Refusals: 1, 2, 3. */
+/* Whether a word table, of either kind and degree, has its length and only legal pairs. Refusals: 1, 2, 3. */
 uint64_t vayudrit_check(uint64_t n, uint64_t m, const uint64_t *table, size_t table_words);
 
-/* The table of differences of a coefficient table, written whole. Refusals: 1, 2, 3. */
+/*
+ * The table of differences of a coefficient table, written whole. Its constant is the value at place 0, its entry of xb
+ * what is added to the value at the place 3^b. Quadratic: the entry of xb*xc is what slot b changes by at each place
+ * whose first two positions are b, c. Cubic: it is what slot b changes by at the place 3^b + 3^c, where second slot (b,c)
+ * begins; and the entry of xb*xc*xd is what that second slot changes by at each place whose first three positions are
+ * b, c, d. Refusals: 1, 2 (tables of two lengths, too), 3.
+ */
 uint64_t vayudrit_differences(uint64_t n, uint64_t m, const uint64_t *coefficients, size_t coefficients_words,
                               uint64_t *table, size_t table_words);
 
-/* The coefficient table of a table of differences, written whole. Every legal table has one. Refusals: 1, 2, 3. */
+/*
+ * The coefficient table of a table of differences, written whole. Every legal table of either degree has exactly one.
+ * Refusals: 1, 2 (tables of two lengths, too), 3.
+ */
 uint64_t vayudrit_coefficients(uint64_t n, uint64_t m, const uint64_t *table, size_t table_words,
                                uint64_t *coefficients, size_t coefficients_words);
 
@@ -152,7 +193,13 @@ uint64_t vayudrit_evaluate(uint64_t n, uint64_t m, const uint64_t *coefficients,
 /*
  * The record of a table of differences at any place from 0 to 3^n: VAYUDRIT_RECORD_WORDS words, in the order that
  * vayudrit_search has them in. On a machine with the lowest byte first these words are the search's bytes as they
- * stand; elsewhere write each word as 8 bytes, the lowest first. Refusals: 1, 2 (record_words is not 45, too), 3, 4.
+ * stand; elsewhere write each word as 8 bytes, the lowest first.
+ *
+ * Let q be the place before, or 0 at place 0. The value is the system's at the point of q. Slot b is what was last added
+ * to the value, at or before q, at a place whose first position is b; before that what will be added at 3^b. With a cubic
+ * table second slot (b,c) is the change last added to slot b, at or before q, at a place whose first two positions are
+ * b, c; before that the change due at 3^b + 3^c. At n = 1 the record is the quadratic one.
+ * Refusals: 1, 2 (record_words is not 465, too), 3, 4.
  */
 uint64_t vayudrit_open(uint64_t n, uint64_t m, const uint64_t *table, size_t table_words, uint64_t place,
                        uint64_t *record, size_t record_words);
@@ -228,5 +275,17 @@ uint64_t vayudrit_tidy(const uint8_t *text, size_t text_bytes, uint8_t *out, siz
  *       printf("refused %d line %d", (int)VAYUDRIT_NUMBER(r), (int)VAYUDRIT_LINE(r));
  *
  * Then n is told[0], m is told[1], and words are the coefficients for vayudrit_differences, as in the example above.
+ *
+ * EXAMPLE (examples/trial.c): a trial with a three-way interaction. The third of three treatments works the other way
+ * round where the first two differ: x0 + x1 + x2*(1 + (x0 - x1)*(x0 - x1)) = 0. The steps are those of the first example,
+ * with the sizes of a cubic table. A row has the numbers of 1; x0, x1, x2; x0*x0, x0*x1, x0*x2, x1*x1, x1*x2, x2*x2; and
+ * then of x0*x0*x1, x0*x0*x2, x0*x1*x1, x0*x1*x2, x0*x2*x2, x1*x1*x2, x1*x2*x2.
+ *
+ *   static const int8_t rows[VAYUDRIT_MONOMIALS3(3)] = {0, 1, 1, 1, 0, 0, 0, 0, 0, 0, 0, 1, 0, -2, 0, 1, 0};
+ *   uint64_t c[VAYUDRIT_TABLE3_WORDS(3)], d[VAYUDRIT_TABLE3_WORDS(3)], r[VAYUDRIT_RECORD_WORDS];
+ *   uint8_t table[VAYUDRIT_TABLE3_BYTES(3)], record[VAYUDRIT_RECORD_BYTES];
+ *
+ *   if (vayudrit_pack(3, 1, rows, VAYUDRIT_MONOMIALS3(3), c, VAYUDRIT_TABLE3_WORDS(3)) != VAYUDRIT_DONE)
+ *       return 1;
  */
 #endif

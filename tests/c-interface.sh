@@ -20,8 +20,12 @@ nm -g --defined-only "$lib" | awk 'NF == 3 { print $3 }' | sort | diff "$out/dec
 warn="-O2 -Wall -Wextra -Werror -pedantic -Iinclude"
 gcc -std=c99 $warn examples/first.c "$lib" -o "$out/first"
 g++ -x c++ -std=c++11 $warn examples/first.c -x none "$lib" -o "$out/first++"
-for program in first first++; do
-    "$out/$program" | diff - examples/first.out
+gcc -std=c99 $warn examples/trial.c "$lib" -o "$out/trial"
+g++ -x c++ -std=c++11 $warn examples/trial.c -x none "$lib" -o "$out/trial++"
+for example in first trial; do
+    for program in "$example" "$example++"; do
+        "$out/$program" | diff - "examples/$example.out"
+    done
 done
 
 gcc -std=c99 $warn examples/graph.c "$lib" -o "$out/graph"

@@ -1,5 +1,5 @@
-/* The C interface held to plain arithmetic: random systems, every function, every refusal, lists longer than a chunk.
-   Nothing here uses words or differences: a system is its signed rows, a point its digits. */
+/* The C interface held to plain arithmetic: random systems of both degrees, every function, every refusal, lists longer
+   than a chunk. Nothing here uses words or differences: a system is its signed rows, a point its digits. */
 #include "vayudrit.h"
 
 #include <stdio.h>
@@ -57,6 +57,20 @@ static uint64_t point_at(unsigned n, uint64_t place)
     return point;
 }
 
+/* The system: m rows of this degree, 2 or 3. */
+static unsigned degree = 2;
+static int8_t rows[64 * VAYUDRIT_MAX_TABLE3_WORDS / 2];
+
+static size_t monomials(unsigned n)
+{
+    return degree == 3 ? VAYUDRIT_MONOMIALS3(n) : VAYUDRIT_MONOMIALS(n);
+}
+
+static size_t table_words(unsigned n)
+{
+    return 2 * monomials(n);
+}
+
 /* One row at a point, modulo 3. */
 static unsigned value(unsigned n, const int8_t *row, uint64_t point)
 {
@@ -69,38 +83,40 @@ static unsigned value(unsigned n, const int8_t *row, uint64_t point)
     for (unsigned i = 0; i < n; i++)
         for (unsigned j = i; j < n; j++)
             sum += *c++ * x[i] * x[j];
+    for (unsigned i = 0; degree == 3 && i < n; i++)
+        for (unsigned j = i; j < n; j++)
+            for (unsigned k = i == j ? j + 1 : j; k < n; k++)
+                sum += *c++ * x[i] * x[j] * x[k];
     return (unsigned)(((sum % 3) + 3) % 3);
 }
 
-static int zero(unsigned n, unsigned m, const int8_t *rows, uint64_t point)
+static int zero(unsigned n, unsigned m, uint64_t point)
 {
     for (unsigned e = 0; e < m; e++)
-        if (value(n, rows + e * VAYUDRIT_MONOMIALS(n), point) != 0)
+        if (value(n, rows + e * monomials(n), point) != 0)
             return 0;
     return 1;
 }
 
-/* Additions of a place: 0, 1 at a power of three, else 2. */
+/* Additions of a place: its digits added up, at most the degree. */
 static unsigned cost(uint64_t place)
 {
-    if (place == 0)
-        return 0;
-    while (place % 3 == 0)
-        place /= 3;
-    return place == 1 ? 1 : 2;
+    unsigned digits = 0;
+    for (; place > 0; place /= 3)
+        digits += (unsigned)(place % 3);
+    return digits < degree ? digits : degree;
 }
 
-static int8_t rows[64 * 231];
-static uint64_t coefficients[VAYUDRIT_MAX_TABLE_WORDS], differences[VAYUDRIT_MAX_TABLE_WORDS], back[VAYUDRIT_MAX_TABLE_WORDS];
+static uint64_t coefficients[VAYUDRIT_MAX_TABLE3_WORDS], differences[VAYUDRIT_MAX_TABLE3_WORDS], back[VAYUDRIT_MAX_TABLE3_WORDS];
 static uint64_t opened[VAYUDRIT_RECORD_WORDS];
-static uint8_t table[8 * VAYUDRIT_MAX_TABLE_WORDS + 16], record[VAYUDRIT_RECORD_BYTES + 8], answer[VAYUDRIT_ANSWER_BYTES + 8];
+static uint8_t table[8 * VAYUDRIT_MAX_TABLE3_WORDS + 16], record[VAYUDRIT_RECORD_BYTES + 8], answer[VAYUDRIT_ANSWER_BYTES + 8];
 static uint8_t list[8 * 20000], old_list[8 * 20000], old_record[VAYUDRIT_RECORD_BYTES + 8], old_answer[VAYUDRIT_ANSWER_BYTES + 8];
 
 /* Makes the tables of the system in `rows` and opens it at a place. */
 static void prepare(unsigned n, unsigned m, uint64_t place, long run)
 {
-    size_t words = VAYUDRIT_TABLE_WORDS(n);
-    if (vayudrit_pack(n, m, rows, m * VAYUDRIT_MONOMIALS(n), coefficients, words) != 0)
+    size_t words = table_words(n);
+    if (vayudrit_pack(n, m, rows, m * monomials(n), coefficients, words) != 0)
         fault("pack", run);
     if (vayudrit_check(n, m, coefficients, words) != 0)
         fault("check", run);
@@ -119,7 +135,7 @@ static void prepare(unsigned n, unsigned m, uint64_t place, long run)
 /* One call, and the same by plain arithmetic; what the call left of the list and the record is compared whole. */
 static uint64_t call(unsigned n, unsigned m, uint64_t budget, size_t entries, long run)
 {
-    size_t words = VAYUDRIT_TABLE_WORDS(n);
+    size_t words = table_words(n);
     uint64_t end = power3(n), place = get(record, 2), points = 0, additions = 0, found = 0, stop = 2;
     for (size_t i = 0; i < 8 * entries + 8; i++)
         list[i] = old_list[i] = (uint8_t)rnd();
@@ -138,7 +154,7 @@ static uint64_t call(unsigned n, unsigned m, uint64_t budget, size_t entries, lo
             stop = 2;
             break;
         }
-        if (zero(n, m, rows, point_at(n, place)))
+        if (zero(n, m, point_at(n, place)))
             put(old_list, found++, point_at(n, place));
         additions += cost(place);
         points++;
@@ -160,17 +176,18 @@ static uint64_t call(unsigned n, unsigned m, uint64_t budget, size_t entries, lo
 static void systems(void)
 {
     long calls[3] = {0, 0, 0};
-    for (long run = 0; run < 3000; run++) {
+    for (long run = 0; run < 5000; run++) {
         unsigned n = 1 + (unsigned)(rnd() % (run % 50 == 0 ? 7 : 5)), m = 1 + (unsigned)(rnd() % (run % 4 == 0 ? 64 : 4));
-        for (size_t i = 0; i < m * VAYUDRIT_MONOMIALS(n); i++)
+        degree = rnd() % 2 == 0 ? 2 : 3;
+        for (size_t i = 0; i < m * monomials(n); i++)
             rows[i] = run % 7 == 0 ? 0 : (int8_t)rnd();
         uint64_t start = run % 3 == 0 ? 0 : rnd() % (power3(n) + 1), stop;
         prepare(n, m, start, run);
         uint64_t x = rnd() % power3(n), v[2];
-        if (vayudrit_evaluate(n, m, coefficients, VAYUDRIT_TABLE_WORDS(n), x, v, 2) != 0)
+        if (vayudrit_evaluate(n, m, coefficients, table_words(n), x, v, 2) != 0)
             fault("evaluate", run);
         for (unsigned e = 0; e < m; e++)
-            if ((v[0] >> e & 1) + (v[1] >> e & 1) != value(n, rows + e * VAYUDRIT_MONOMIALS(n), x))
+            if ((v[0] >> e & 1) + (v[1] >> e & 1) != value(n, rows + e * monomials(n), x))
                 fault("value", run);
         do {
             uint64_t budget = run % 11 == 0 ? UINT64_MAX : 1 + rnd() % 400;
@@ -186,7 +203,7 @@ static void systems(void)
 /* Random coefficients, with m equations few enough for some zeros. */
 static void random_system(unsigned n, unsigned m)
 {
-    for (size_t i = 0; i < m * VAYUDRIT_MONOMIALS(n); i++)
+    for (size_t i = 0; i < m * monomials(n); i++)
         rows[i] = (int8_t)rnd();
 }
 
@@ -197,7 +214,8 @@ static void whole_walks(void)
     long walks = 0;
     for (unsigned n = 1; n <= 9; n++)
         for (unsigned kind = 0; kind < 5; kind++)
-            for (unsigned k = 0; k < 6; k++) {
+            for (unsigned k = 0; k < 12; k++) {
+                degree = k < 6 ? 2 : 3;
                 unsigned m = 1 + (unsigned)(rnd() % (n < 5 ? n : 4));
                 size_t many = kind == 4 ? (size_t)power3(n) : 100;
                 uint64_t stop;
@@ -205,32 +223,122 @@ static void whole_walks(void)
                 prepare(n, m, 0, walks);
                 do {
                     uint64_t budget = kind < 3 ? kind + 1 : kind == 3 ? 1 + rnd() % 200 : UINT64_MAX - rnd() % 3;
-                    stop = call(n, m, budget, lists[k] != 0 ? lists[k] : many, walks);
+                    stop = call(n, m, budget, lists[k % 6] != 0 ? lists[k % 6] : many, walks);
                 } while (stop != VAYUDRIT_ENDED);
                 walks++;
             }
     printf("%ld whole walks\n", walks);
 }
 
-/* At n = 20, about the begin, the powers of three, the middle and the end. */
+/* At n = 20, about the begin, the powers of three and sums of two of them, the middle and the end. */
 static void far_places(void)
 {
-    uint64_t end = power3(20), near[] = {0, 1, 26, 27, 28, power3(10), power3(19), 2 * power3(19), end / 2, end - 120};
+    uint64_t end = power3(20), near[] = {0, 1, 26, 27, 28, power3(10), power3(19), 2 * power3(19), end / 2, end - 120,
+                                         power3(18) + power3(19), power3(3) + power3(19), power3(5) + power3(6)};
     for (unsigned k = 0; k < sizeof near / sizeof near[0]; k++)
         for (unsigned m = 2; m <= 64; m += 31) {
             uint64_t start = near[k] < 40 ? near[k] : near[k] - rnd() % 40;
+            degree = k % 2 == m % 2 ? 2 : 3;
             random_system(20, m);
             prepare(20, m, start, (long)k);
             for (unsigned calls = 0; calls < 8; calls++)
                 call(20, m, 1 + rnd() % 100, 1 + rnd() % 40, (long)k);
         }
+    prepare(20, 64, end - 120, -1);
     if (call(20, 64, UINT64_MAX, 200, -1) != VAYUDRIT_ENDED)
         fault("the end of the longest walk", -1);
+}
+
+/* Additions of whole walks: C-12's 3 times (3^n - 1), less 2n, less n(n+1)/2, and document 01's 2 times (3^n - 1), less n. */
+static void additions(void)
+{
+    static const uint64_t totals[2][5] = {{3, 14, 49, 156, 479}, {3, 17, 66, 222, 701}};
+    for (degree = 2; degree <= 3; degree++)
+        for (unsigned n = 1; n <= 5; n++) {
+            random_system(n, 3);
+            prepare(n, 3, 0, n);
+            if (call(n, 3, UINT64_MAX, 243, n) != VAYUDRIT_ENDED || get(answer, 3) != totals[degree - 2][n - 1])
+                fault("additions of a whole walk", n);
+        }
+    degree = 2;
+}
+
+/* Second slots: with a quadratic table all 0; with a cubic one at place 0 the table's entries of the products, in the order
+   of n = 20, and 0 where an unknown is lacking. */
+static void second_slots(void)
+{
+    for (degree = 2; degree <= 3; degree++)
+        for (unsigned n = 2; n <= 20; n++) {
+            size_t slot = 45, product = 2 * (1 + (size_t)n);
+            random_system(n, 5);
+            prepare(n, 5, 0, n);
+            for (unsigned b = 0; b < 20; b++)
+                for (unsigned c = b; c < 20; c++, slot += 2) {
+                    int there = degree == 3 && c < n;
+                    if (opened[slot] != (there ? differences[product] : 0) || opened[slot + 1] != (there ? differences[product + 1] : 0))
+                        fault("second slot", n);
+                    product += c < n ? 2 : 0;
+                }
+        }
+    degree = 2;
+}
+
+/* At n = 1 a record of either reading is accepted and moved on as what it was, with the same answer and list. */
+static void one_unknown(void)
+{
+    for (unsigned k = 0; k < 27; k++)
+        for (uint64_t place = 0; place <= 3; place++) {
+            uint8_t quadratic[VAYUDRIT_RECORD_BYTES], cubic[VAYUDRIT_RECORD_BYTES], other[VAYUDRIT_ANSWER_BYTES];
+            rows[0] = (int8_t)(k % 3), rows[1] = (int8_t)(k / 3 % 3), rows[2] = (int8_t)(k / 9);
+            prepare(1, 1, place, (long)k);
+            memcpy(cubic, record, sizeof cubic);
+            put(cubic, 45, differences[4]);
+            put(cubic, 46, differences[5]);
+            call(1, 1, 1, 3, (long)k);
+            memcpy(quadratic, record, sizeof quadratic);
+            memcpy(other, answer, sizeof other);
+            memcpy(back, list, 24);
+            if (vayudrit_search(1, 1, table, 48, cubic, sizeof cubic, 1, list, 24, answer, VAYUDRIT_ANSWER_BYTES) != 0
+                || memcmp(other, answer, sizeof other) != 0 || memcmp(back, list, 8 * get(answer, 4)) != 0)
+                fault("a cubic record at n = 1", (long)k);
+            put(quadratic, 45, differences[4]);
+            put(quadratic, 46, differences[5]);
+            if (memcmp(quadratic, cubic, sizeof cubic) != 0)
+                fault("a cubic record at n = 1, moved on", (long)k);
+        }
+}
+
+/* Small systems of degree 3 by hand: x0*x1*x2 + 2 is 0 where the product is 1; x0*x0*x1 + x1 + 1 where x1 is 2 and x0 is 0,
+   or x1 is 1 and x0 is not 0; x0*x0*x1 + 2*x0*x1*x1 + 1 where x0*x1*(x0 - x1) is 2; x0*x0 + 1 nowhere. */
+static void by_hand(void)
+{
+    static const struct {
+        unsigned n;
+        int8_t row[17];
+        uint64_t found, list[4];
+    } systems[] = {
+        {3, {2, 0, 0, 0, 0, 0, 0, 0, 0, 0, 0, 0, 0, 1, 0, 0, 0}, 4, {17, 13, 23, 25}},
+        {2, {1, 0, 1, 0, 0, 0, 1, 0}, 3, {5, 4, 6}},
+        {2, {1, 0, 0, 0, 0, 0, 1, 2}, 1, {5}},
+        {2, {1, 0, 0, 1, 0, 0, 0, 0}, 0, {0}},
+    };
+    degree = 3;
+    for (size_t k = 0; k < sizeof systems / sizeof systems[0]; k++) {
+        memcpy(rows, systems[k].row, sizeof systems[k].row);
+        prepare(systems[k].n, 1, 0, (long)k);
+        if (call(systems[k].n, 1, UINT64_MAX, 5, (long)k) != VAYUDRIT_ENDED || get(answer, 4) != systems[k].found)
+            fault("a system by hand", (long)k);
+        for (size_t i = 0; i < systems[k].found; i++)
+            if (get(list, i) != systems[k].list[i])
+                fault("a list by hand", (long)k);
+    }
+    degree = 2;
 }
 
 /* A list of more than several chunks. */
 static void long_list(void)
 {
+    degree = 2;
     memset(rows, 0, sizeof rows);
     prepare(9, 3, 0, -1);
     if (call(9, 3, UINT64_MAX, 19683, -1) != VAYUDRIT_ENDED)
@@ -279,12 +387,48 @@ static void expect(const char *what, uint64_t got, uint64_t wanted)
 /* Whether the record is what opening at its place gives: another place may have the same value and slots. */
 static int legal_record(unsigned n, unsigned m)
 {
-    if (vayudrit_open(n, m, differences, VAYUDRIT_TABLE_WORDS(n), get(record, 2), opened, VAYUDRIT_RECORD_WORDS) != 0)
+    if (vayudrit_open(n, m, differences, table_words(n), get(record, 2), opened, VAYUDRIT_RECORD_WORDS) != 0)
         return 0;
     for (size_t i = 0; i < VAYUDRIT_RECORD_WORDS; i++)
         if (get(record, i) != opened[i])
             return 0;
     return 1;
+}
+
+#define SEARCH(n, m, tb, rb, b, lb, ab) vayudrit_search(n, m, table, tb, record, rb, b, list, lb, answer, ab)
+
+/* The same of a cubic table: each entry illegal, each bit of the record, and a record of the other degree. */
+static void cubic_refusals(void)
+{
+    uint8_t seconds[VAYUDRIT_RECORD_BYTES];
+    degree = 3;
+    random_system(3, 2);
+    prepare(3, 2, 14, -7);
+    memcpy(old_record, record, sizeof record);
+    for (size_t k = 0; k < VAYUDRIT_MONOMIALS3(3); k++) {
+        table[16 * k + 8] ^= 4;
+        expect("a low bit alone in a cubic table", SEARCH(3, 2, 272, 3720, 1, 8, 40), 3 + 256 * k);
+        expect("the same, and an answer of another length", SEARCH(3, 2, 272, 3720, 1, 8, 48), 2);
+        table[16 * k + 8] ^= 4;
+    }
+    expect("a cubic table's record with the quadratic part of the table", SEARCH(3, 2, 160, 3720, 1, 8, 40), 5);
+    for (size_t i = 0; i < 8 * VAYUDRIT_RECORD_WORDS; i++) {
+        record[i] ^= 1;
+        memcpy(old_record, record, sizeof record);
+        if (!legal_record(3, 2))
+            expect("one bit of a cubic record", SEARCH(3, 2, 272, 3720, 1, 8, 40), 5);
+        record[i] ^= 1;
+    }
+    memcpy(seconds, record, sizeof seconds);
+    memset(record + 360, 0, 3360);
+    memcpy(old_record, record, sizeof record);
+    if (memcmp(seconds, record, sizeof seconds) != 0)
+        expect("a cubic record without its second slots", SEARCH(3, 2, 272, 3720, 1, 8, 40), 5);
+    memcpy(record, seconds, sizeof seconds);
+    memcpy(old_record, record, sizeof record);
+    expect("budget 0 on a cubic table", SEARCH(3, 2, 272, 3720, 0, 8, 40), 6);
+    expect("no list on a cubic table", SEARCH(3, 2, 272, 3720, 1, 0, 40), 7);
+    degree = 2;
 }
 
 static void search_refusals(void)
@@ -294,38 +438,41 @@ static void search_refusals(void)
         const char *what;
         uint64_t n, m, table, record, budget, list, answer, refusal; /* lengths in bytes */
     } calls[] = {
-        {"n = 0", 0, 1, 96, 360, 1, 8, 40, 1},
-        {"n = 21", 21, 1, 96, 360, 1, 8, 40, 1},
-        {"n = 2^32 + 2", 4294967298u, 1, 96, 360, 1, 8, 40, 1},
-        {"m = 0", 2, 0, 96, 360, 1, 8, 40, 1},
+        {"n = 0", 0, 1, 96, 3720, 1, 8, 40, 1},
+        {"n = 21", 21, 1, 96, 3720, 1, 8, 40, 1},
+        {"n = 2^32 + 2", 4294967298u, 1, 96, 3720, 1, 8, 40, 1},
+        {"m = 0", 2, 0, 96, 3720, 1, 8, 40, 1},
         {"m = 65, and all lengths wrong", 2, 65, 1, 1, 0, 0, 1, 1},
-        {"table one word short", 2, 1, 88, 360, 1, 8, 40, 2},
-        {"table one byte long", 2, 1, 97, 360, 1, 8, 40, 2},
-        {"record short", 2, 1, 96, 359, 1, 8, 40, 2},
-        {"record long", 2, 1, 96, 368, 1, 8, 40, 2},
-        {"list of 9 bytes", 2, 1, 96, 360, 1, 9, 40, 2},
-        {"answer long", 2, 1, 96, 360, 1, 8, 48, 2},
-        {"answer short, budget 0, no list", 2, 1, 96, 360, 0, 0, 32, 2},
-        {"no list", 2, 1, 96, 360, 1, 0, 40, 7},
-        {"budget 0, no list", 2, 1, 96, 360, 0, 0, 40, 6},
-        {"n is not the record's", 1, 1, 48, 360, 1, 8, 40, 5},
-        {"m is not the record's, budget 0", 2, 2, 96, 360, 0, 8, 40, 5},
+        {"table one word short", 2, 1, 88, 3720, 1, 8, 40, 2},
+        {"table one byte long", 2, 1, 97, 3720, 1, 8, 40, 2},
+        {"table of neither degree", 2, 1, 112, 3720, 1, 8, 40, 2},
+        {"cubic table one byte long", 2, 1, 129, 3720, 1, 8, 40, 2},
+        {"cubic table of another n", 2, 1, 272, 3720, 1, 8, 40, 2},
+        {"record short", 2, 1, 96, 3719, 1, 8, 40, 2},
+        {"record without second slots", 2, 1, 96, 360, 1, 8, 40, 2},
+        {"record long", 2, 1, 96, 3728, 1, 8, 40, 2},
+        {"list of 9 bytes", 2, 1, 96, 3720, 1, 9, 40, 2},
+        {"answer long", 2, 1, 96, 3720, 1, 8, 48, 2},
+        {"answer short, budget 0, no list", 2, 1, 96, 3720, 0, 0, 32, 2},
+        {"no list", 2, 1, 96, 3720, 1, 0, 40, 7},
+        {"budget 0, no list", 2, 1, 96, 3720, 0, 0, 40, 6},
+        {"n is not the record's", 1, 1, 48, 3720, 1, 8, 40, 5},
+        {"m is not the record's, budget 0", 2, 2, 96, 3720, 0, 8, 40, 5},
     };
     memcpy(rows, edge, sizeof edge);
     prepare(2, 1, 4, -5);
     memcpy(old_record, record, sizeof record);
     memcpy(old_list, list, sizeof list);
     memcpy(old_answer, answer, sizeof answer);
-#define SEARCH(n, m, tb, rb, b, lb, ab) vayudrit_search(n, m, table, tb, record, rb, b, list, lb, answer, ab)
     for (size_t k = 0; k < sizeof calls / sizeof calls[0]; k++)
         expect(calls[k].what,
                SEARCH(calls[k].n, calls[k].m, calls[k].table, calls[k].record, calls[k].budget, calls[k].list, calls[k].answer),
                calls[k].refusal);
     for (size_t k = 0; k < 6; k++) {
         table[16 * k + 8] ^= 2;
-        expect("a low bit alone", SEARCH(2, 1, 96, 360, 1, 8, 40), 3 + 256 * k);
+        expect("a low bit alone", SEARCH(2, 1, 96, 3720, 1, 8, 40), 3 + 256 * k);
         table[80] ^= 4;
-        expect("a low bit alone, and a high bit above m in the last entry", SEARCH(2, 1, 96, 360, 1, 8, 40), 3 + 256 * k);
+        expect("a low bit alone, and a high bit above m in the last entry", SEARCH(2, 1, 96, 3720, 1, 8, 40), 3 + 256 * k);
         table[80] ^= 4;
         table[16 * k + 8] ^= 2;
     }
@@ -336,22 +483,35 @@ static void search_refusals(void)
         record[i] ^= 1;
         memcpy(old_record, record, sizeof record);
         if (!legal_record(2, 1))
-            expect("one bit of the record", SEARCH(2, 1, 96, 360, 1, 8, 40), 5);
+            expect("one bit of the record", SEARCH(2, 1, 96, 3720, 1, 8, 40), 5);
         record[i] ^= 1;
     }
     memcpy(old_record, record, sizeof record);
+    cubic_refusals();
 }
 
 static void other_refusals(void)
 {
+    static const int8_t edge[6] = {2, 0, 0, 1, 1, 1};
     uint64_t w[VAYUDRIT_MAX_TABLE_WORDS], old[VAYUDRIT_MAX_TABLE_WORDS];
     int64_t b = 77;
+    memcpy(rows, edge, sizeof edge);
+    prepare(2, 1, 4, -6);
+    memcpy(old_record, record, sizeof record);
     for (size_t i = 0; i < VAYUDRIT_MAX_TABLE_WORDS; i++)
         w[i] = old[i] = rnd();
     expect("pack 1", vayudrit_pack(21, 1, rows, 6, w, 12), 1);
     expect("pack 2, rows", vayudrit_pack(2, 1, rows, 5, w, 12), 2);
     expect("pack 2, table", vayudrit_pack(2, 1, rows, 6, w, 11), 2);
+    expect("pack 2, cubic rows", vayudrit_pack(2, 1, rows, 8, w, 12), 2);
+    expect("pack 2, cubic table", vayudrit_pack(2, 1, rows, 6, w, 16), 2);
     expect("check 2", vayudrit_check(2, 1, differences, 11), 2);
+    expect("check 2, between the two", vayudrit_check(2, 1, differences, 14), 2);
+    expect("differences 2, into a cubic table", vayudrit_differences(2, 1, differences, 12, w, 16), 2);
+    expect("differences 2, from a cubic table", vayudrit_differences(2, 1, differences, 16, w, 12), 2);
+    expect("coefficients 2, into a cubic table", vayudrit_coefficients(2, 1, differences, 12, w, 16), 2);
+    expect("coefficients 2, from a cubic table", vayudrit_coefficients(2, 1, differences, 16, w, 12), 2);
+    expect("open 2, a record without second slots", vayudrit_open(2, 1, differences, 12, 0, w, 45), 2);
     differences[0] |= 4;
     expect("check 3", vayudrit_check(2, 1, differences, 12), 3);
     differences[10] |= 4;
@@ -360,7 +520,7 @@ static void other_refusals(void)
     expect("check 3, last entry", vayudrit_check(2, 1, differences, 12), 3 + 256 * 5);
     expect("differences 3, last entry", vayudrit_differences(2, 1, differences, 12, w, 12), 3 + 256 * 5);
     expect("coefficients 3, last entry", vayudrit_coefficients(2, 1, differences, 12, w, 12), 3 + 256 * 5);
-    expect("open 3, last entry", vayudrit_open(2, 1, differences, 12, 10, w, 45), 3 + 256 * 5);
+    expect("open 3, last entry", vayudrit_open(2, 1, differences, 12, 10, w, 465), 3 + 256 * 5);
     expect("evaluate 3, last entry", vayudrit_evaluate(2, 1, differences, 12, 9, w, 2), 3 + 256 * 5);
     expect("the number of a refusal", VAYUDRIT_NUMBER(vayudrit_check(2, 1, differences, 12)), VAYUDRIT_REFUSED_PAIR);
     expect("the entry of a refusal", VAYUDRIT_ENTRY(vayudrit_check(2, 1, differences, 12)), 5);
@@ -369,12 +529,12 @@ static void other_refusals(void)
     expect("differences 3", vayudrit_differences(2, 1, differences, 12, w, 12), 3);
     expect("differences 2 before 3", vayudrit_differences(2, 1, differences, 12, w, 11), 2);
     expect("coefficients 3", vayudrit_coefficients(2, 1, differences, 12, w, 12), 3);
-    expect("open 2 before 3", vayudrit_open(2, 1, differences, 12, 0, w, 44), 2);
-    expect("open 3", vayudrit_open(2, 1, differences, 12, 10, w, 45), 3);
+    expect("open 2 before 3", vayudrit_open(2, 1, differences, 12, 0, w, 464), 2);
+    expect("open 3", vayudrit_open(2, 1, differences, 12, 10, w, 465), 3);
     expect("evaluate 2 before 3", vayudrit_evaluate(2, 1, differences, 12, 0, w, 3), 2);
     expect("evaluate 3", vayudrit_evaluate(2, 1, differences, 12, 9, w, 2), 3);
     differences[0] &= ~(uint64_t)4;
-    expect("open 4", vayudrit_open(2, 1, differences, 12, 10, w, 45), 4);
+    expect("open 4", vayudrit_open(2, 1, differences, 12, 10, w, 465), 4);
     expect("evaluate 4", vayudrit_evaluate(2, 1, differences, 12, 9, w, 2), 4);
     expect("point 1", vayudrit_point(0, 0, w, 2), 1);
     expect("point 2 before 4", vayudrit_point(2, 9, w, 2), 2);
@@ -387,7 +547,7 @@ static void other_refusals(void)
     expect("unbalanced 4, far", vayudrit_unbalanced(20, INT64_MIN, w, 1), 4);
     if (memcmp(w, old, sizeof w) != 0 || b != 77)
         fault("what a refusal left", -6);
-    expect("open at the end", vayudrit_open(2, 1, differences, 12, 9, opened, 45), 0);
+    expect("open at the end", vayudrit_open(2, 1, differences, 12, 9, opened, 465), 0);
     expect("the lower end", vayudrit_unbalanced(20, -1743392200, w, 1), 0);
 }
 
@@ -396,6 +556,10 @@ int main(void)
     systems();
     whole_walks();
     far_places();
+    additions();
+    second_slots();
+    one_unknown();
+    by_hand();
     long_list();
     numbers();
     search_refusals();

@@ -79,6 +79,12 @@ static size_t bytes_lent(const struct call *c, unsigned i) {
     return c->len[i] * lent_of(c, i)->width;
 }
 
+/* The degree that the length of lent table i tells, or 0. */
+static unsigned degree_lent(const struct call *c, unsigned i) {
+    if (lent_of(c, i)->role != TABLE || c->n < 1 || c->n > MOST_UNKNOWNS) return 0;
+    return bytes_lent(c, i) % 8 == 0 ? degree_of(c->n, bytes_lent(c, i) / 8) : 0;
+}
+
 static uint64_t word(const struct call *c, unsigned i, size_t k) {
     return word_at(c->bytes[i] + 8 * k);
 }
@@ -111,7 +117,7 @@ PERFORM(reference)
 /* ---- reports and cases ---- */
 
 static const struct call *current; /* being performed */
-static unsigned long agreed, walks, results[OPERATIONS][8];
+static unsigned long agreed, cubic, walks, results[OPERATIONS][8];
 
 static void print_case(const struct call *c) {
     printf("case %s\nn %" PRIu64 "\nm %" PRIu64 "\nnumber %" PRIu64 "\nsteps %" PRIu64
@@ -238,6 +244,7 @@ static uint64_t compare_call(const struct call *c) {
         free(expected[i]);
     }
     agreed++;
+    cubic += degree_lent(c, c->op == PACK) == 3;
     results[c->op][wanted % 256]++;
     return wanted;
 }
@@ -255,10 +262,17 @@ static void fill(struct call *c, unsigned i, size_t from) {
         c->bytes[i][k] = (uint8_t)random_word();
 }
 
-/* A call with buffers of the right lengths and any contents. */
-static void begin(struct call *c, enum operation op, uint64_t n, uint64_t m) {
-    size_t words[] = {[TABLE] = 2 * monomials(n), [RECORD] = RECORD_WORDS, [LIST] = 1,
+/* The length of a lent buffer for a table of this degree: elements. */
+static size_t right_length(const struct call *c, unsigned i, unsigned degree) {
+    size_t words[] = {[TABLE] = 2 * monomials(c->n, degree), [RECORD] = RECORD_WORDS, [LIST] = 1,
                       [ANSWER] = ANSWER_WORDS, [VALUE] = 2, [ONE] = 1};
+    const struct lent *lent = lent_of(c, i);
+    return lent->role == ROWS ? (size_t)c->m * monomials(c->n, degree)
+                              : words[lent->role] * 8 / lent->width;
+}
+
+/* A call with buffers of the right lengths and any contents. */
+static void begin(struct call *c, enum operation op, uint64_t n, uint64_t m, unsigned degree) {
     c->op = op;
     c->n = n;
     c->m = m;
@@ -266,17 +280,16 @@ static void begin(struct call *c, enum operation op, uint64_t n, uint64_t m) {
     c->memory = (unsigned)ONE_OF(BYTES, BYTES, PAGE_END, PAGE_START);
     c->shift = (unsigned)below(8);
     for (unsigned i = 0; i < lent_count(c); i++) {
-        enum role role = lent_of(c, i)->role;
-        c->len[i] = role == ROWS ? (size_t)m * monomials(n) : words[role] * 8 / lent_of(c, i)->width;
+        c->len[i] = right_length(c, i, degree);
         fill(c, i, 0);
     }
 }
 
+static unsigned random_degree(void) { return (unsigned)ONE_OF(2, 3); }
 static uint64_t random_m(void) { return ONE_OF(1, 1, 2, 2 + below(6), 63, 64, 64, 1 + below(64)); }
 
 /* Dense, sparse or empty rows, or few different rows, so that zeros stay likely. */
-static void random_rows(uint64_t n, uint64_t m, int8_t *rows) {
-    size_t size = monomials(n);
+static void random_rows(size_t size, uint64_t m, int8_t *rows) {
     unsigned kind = (unsigned)below(8);
     for (size_t k = 0; k < m * size; k++)
         rows[k] = kind == 0 || (kind < 4 && !one_in(8)) ? 0 : (int8_t)(below(256) - 128);
@@ -290,8 +303,8 @@ static void random_rows(uint64_t n, uint64_t m, int8_t *rows) {
 static void put_random_table(struct call *c) {
     static int8_t rows[MOST_EQUATIONS * MOST_MONOMIALS];
     uint64_t words[2 * MOST_MONOMIALS], v[2];
-    size_t size = monomials(c->n);
-    random_rows(c->n, c->m, rows);
+    size_t size = bytes_lent(c, 0) / 16;
+    random_rows(size, c->m, rows);
     reference_pack(c->n, c->m, rows, c->m * size, words, 2 * size);
     if (one_in(3)) {
         reference_evaluate(c->n, c->m, words, 2 * size, below(power_of_three((unsigned)c->n)), v, 2);
@@ -324,11 +337,15 @@ static uint64_t random_number(const struct call *c) {
                   UINT64_MAX, random_word());
 }
 
-static void put_record(struct call *c, uint64_t place) {
+/* The record at a place. At n = 1 a table may be read as one of degree 3, too: then second slot
+ * (0, 0) is the table's entry. */
+static void put_record(struct call *c, unsigned degree, uint64_t place) {
     uint64_t table[2 * MOST_MONOMIALS], record[RECORD_WORDS];
-    for (size_t k = 0; k < 2 * monomials(c->n); k++)
+    for (size_t k = 0; k < c->len[0] / 8; k++)
         table[k] = word(c, 0, k);
-    reference_open(c->n, c->m, table, 2 * monomials(c->n), place, record, RECORD_WORDS);
+    reference_open(c->n, c->m, table, c->len[0] / 8, place, record, RECORD_WORDS);
+    if (c->n == 1 && degree == 3)
+        memcpy(record + second_slot(0, 0), table + 2 * product_index(1, 0, 0), 16);
     for (size_t k = 0; k < RECORD_WORDS; k++)
         set_word(c, 1, k, record[k]);
 }
@@ -349,10 +366,10 @@ static void put_limits(struct call *c) {
     put_list(c, ONE_OF(1, 2, 3, 26, 27, 28, 1 + below(100), 6561, LONG_LIST));
 }
 
-static void begin_search(uint64_t n) {
-    begin(&now, SEARCH, n, random_m());
+static void begin_search(uint64_t n, unsigned degree) {
+    begin(&now, SEARCH, n, random_m(), degree);
     put_random_table(&now);
-    put_record(&now, random_place(n));
+    put_record(&now, degree, random_place(n));
     put_limits(&now);
 }
 
@@ -363,10 +380,12 @@ static void damage_size(uint64_t *size, uint64_t most) {
                    256 + *size, random_word());
 }
 
+/* Among other lengths that of a table or of rows of the other degree. */
 static void damage_length(struct call *c, unsigned i) {
     size_t old = c->len[i], width = lent_of(c, i)->width;
+    size_t other = right_length(c, i, old == right_length(c, i, 3) ? 2 : 3);
     size_t length = (size_t)ONE_OF(0, old + 1, old - 1, old + 8, old - 8, 2 * old, old / 2,
-                                   old + 2, old - 2, below(400));
+                                   old + 2, old - 2, below(400), other, other, other);
     if (length > (ROOM - 2 * GUARD) / width) return; /* also where it fell below 0 */
     c->len[i] = length;
     fill(c, i, old * width);
@@ -408,6 +427,15 @@ static void damage_entries(struct call *c) {
     }
 }
 
+/* A word of the record: any, one before the second slots, or one of a second slot that the system
+ * has. */
+static size_t random_field(const struct call *c) {
+    unsigned n = c->n >= 1 && c->n <= MOST_UNKNOWNS ? (unsigned)c->n : 20;
+    unsigned b = (unsigned)below(n), other = (unsigned)below(n);
+    size_t second = second_slot(b < other ? b : other, b < other ? other : b);
+    return (size_t)ONE_OF(below(RECORD_WORDS), below(RECORD_SECONDS), second + below(2));
+}
+
 /* One fault, or what may be one. */
 static void damage(struct call *c) {
     switch (below(c->op == SEARCH ? 10 : 6)) {
@@ -425,7 +453,7 @@ static void damage(struct call *c) {
     case 5: c->number = c->op == SEARCH ? 0 : random_number(c); break;
     case 6: c->len[2] = 0; break;
     default:
-        if (c->len[1] == 8 * RECORD_WORDS) damage_record(c, (size_t)below(RECORD_WORDS));
+        if (c->len[1] == 8 * RECORD_WORDS) damage_record(c, random_field(c));
     }
     if (c->op == SEARCH && c->n > 8 && c->number > 1000)
         c->number = 1000; /* a damaged place must not become a walk of 3^20 */
@@ -441,9 +469,9 @@ static void damage_some(struct call *c) {
 
 static void try_simple(void) {
     enum operation op = (enum operation)(PACK + below(OPERATIONS - PACK));
-    begin(&now, op, ONE_OF(1, 2, 3, 4, 5, 1 + below(20), 20), random_m());
+    begin(&now, op, ONE_OF(1, 2, 3, 4, 5, 1 + below(20), 20), random_m(), random_degree());
     if (op == PACK && one_in(2))
-        random_rows(now.n, now.m, (int8_t *)now.bytes[0]);
+        random_rows(now.len[0] / now.m, now.m, (int8_t *)now.bytes[0]);
     else if (op > PACK && op < POINT)
         put_random_table(&now);
     now.number = op == OPEN ? random_place(now.n) : random_number(&now);
@@ -453,9 +481,12 @@ static void try_simple(void) {
     compare_call(&now);
 }
 
-/* A few calls in turn, from any place. */
+/* A few calls in turn, from any place. Of degree 3 the large systems take the reference a while. */
 static void try_search(void) {
-    begin_search(ONE_OF(20, 20, 9 + below(11), 1 + below(8), 1 + below(4)));
+    if (random_degree() == 2)
+        begin_search(ONE_OF(20, 20, 9 + below(11), 1 + below(8), 1 + below(4)), 2);
+    else
+        begin_search(one_in(8) ? ONE_OF(20, 9 + below(11)) : ONE_OF(1 + below(8), 1 + below(4)), 3);
     damage_some(&now);
     for (uint64_t calls = 1 + below(4); calls > 0; calls--) {
         if (compare_call(&now) != 0) return;
@@ -464,13 +495,15 @@ static void try_search(void) {
     }
 }
 
-/* Each field of one record in turn. */
+/* Each field of one record in turn; of a large system of degree 3 one field in ten. */
 static void try_fields(void) {
     static uint8_t record[8 * RECORD_WORDS];
-    begin_search(ONE_OF(20, 1 + below(20), 1 + below(4)));
+    unsigned degree = random_degree();
+    begin_search(ONE_OF(20, 1 + below(20), 1 + below(4), 2 + below(4)), degree);
     now.number = 1 + below(5);
     memcpy(record, now.bytes[1], sizeof record);
     for (size_t k = 0; k < RECORD_WORDS; k++) {
+        if (degree == 3 && now.n > 6 && !one_in(10)) continue;
         damage_record(&now, k);
         compare_call(&now);
         memcpy(now.bytes[1], record, sizeof record);
@@ -478,19 +511,19 @@ static void try_fields(void) {
 }
 
 /* Every system of one equation in one unknown (k from 0 to 26), at every place, with every small
- * budget and list. */
+ * budget and list, and with the record of either reading. */
 static void try_one_unknown(uint64_t k) {
     const int8_t row[3] = {(int8_t)(k % 3), (int8_t)(k / 3 % 3), (int8_t)(k / 9)};
     uint64_t table[6];
-    begin(&now, SEARCH, 1, 1);
+    begin(&now, SEARCH, 1, 1, 2);
     reference_pack(1, 1, row, 3, table, 6);
     for (uint64_t place = 0; place <= 3; place++)
         for (now.number = 0; now.number <= 4; now.number++)
-            for (uint64_t entries = 0; entries <= 4; entries++) {
+            for (uint64_t entries = 0; entries <= 9; entries++) {
                 for (size_t j = 0; j < 6; j++)
                     set_word(&now, 0, j, table[j]);
-                put_record(&now, place);
-                put_list(&now, entries);
+                put_record(&now, entries > 4 ? 3 : 2, place);
+                put_list(&now, entries % 5);
                 compare_call(&now);
             }
 }
@@ -530,22 +563,39 @@ static void run_walk(void) {
     walks++;
 }
 
-static void try_walk(void) {
-    begin_search(ONE_OF(1, 2, 3, 4, 1 + below(5), 1 + below(8)));
-    if (one_in(2)) put_record(&now, 0);
+static void try_walk(uint64_t n, unsigned degree, int whole) {
+    begin_search(n, degree);
+    if (whole) put_record(&now, degree, 0);
     now.number = UINT64_MAX;
     put_list(&now, LONG_LIST);
     now.steps = 1 + below(TWO_32);
     run_walk();
 }
 
+/* Every operation on tables, each of its buffers with the length that it has at the other degree. */
+static void try_other_lengths(uint64_t n, unsigned degree) {
+    for (enum operation op = SEARCH; op <= OPEN; op++)
+        for (unsigned i = 0; i < MOST_LENT; i++) {
+            begin(&now, op, n, random_m(), degree);
+            if (i >= lent_count(&now)) break;
+            if (op == PACK) random_rows(now.len[0] / now.m, now.m, (int8_t *)now.bytes[0]);
+            else put_random_table(&now);
+            if (op == SEARCH) put_record(&now, degree, random_place(n));
+            now.number = 1;
+            now.len[i] = right_length(&now, i, 5 - degree);
+            compare_call(&now);
+        }
+}
+
 static void try_input(uint64_t k) {
     uint64_t kind = below(100);
     if (k < 27) try_one_unknown(k);
+    else if (k < 41) try_walk(1 + (k - 27) / 2, k % 2 ? 2 : 3, 1); /* n = 1 to 7, both degrees */
+    else if (k < 51) try_other_lengths((const uint64_t[]){1, 2, 3, 5, 20}[(k - 41) / 2], k % 2 ? 2 : 3);
     else if (kind < 60) try_simple();
-    else if (kind < 92) try_search();
-    else if (kind < 94) try_fields();
-    else try_walk();
+    else if (kind < 95) try_search();
+    else if (kind < 96) try_fields();
+    else try_walk(ONE_OF(1, 2, 3, 4, 1 + below(5), 1 + below(8)), random_degree(), one_in(2));
 }
 
 /* ---- the program ---- */
@@ -567,7 +617,8 @@ static void try_many(uint64_t seed, uint64_t seconds, uint64_t count) {
         random_state = random_word();
         try_input(k);
     }
-    printf("seed %" PRIu64 ", %lu whole walks; inputs by number given back, 0 to 7:\n", seed, walks);
+    printf("seed %" PRIu64 ", %lu whole walks, %lu inputs of degree 3; by number given back, 0 to 7:\n",
+           seed, walks, cubic);
     for (unsigned op = 0; op < OPERATIONS; op++) {
         printf("%-12s", shapes[op].name);
         for (unsigned k = 0; k < 8; k++)

@@ -31,7 +31,7 @@ static void write_search(const struct graph *g, const uint64_t *coefficients) {
     static uint64_t table[READER_WORDS], list[LIST];
     uint64_t record[RECORD_WORDS], answer[ANSWER_WORDS] = {[ANSWER_STOP] = SPENT};
     uint64_t points = 0, additions = 0, found = 0;
-    size_t size = 2 * monomials(g->n);
+    size_t size = 2 * monomials(g->n, 2);
     if (reference_differences(g->n, g->m, coefficients, size, table, size) != 0
         || reference_open(g->n, g->m, table, size, 0, record, RECORD_WORDS) != 0)
         abort();

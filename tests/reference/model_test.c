@@ -1,5 +1,5 @@
-/* Self tests of the reference against document 01: its cases by hand, its examples, and its two
- * descriptions of one thing held against each other. Prints the counts; fails if one failed. */
+/* Self tests of the reference against documents 01 and 02: their cases by hand, their examples, and
+ * two descriptions of one thing held against each other. Prints the counts; fails if one failed. */
 #include "reference.h"
 
 #include <stdio.h>
@@ -22,28 +22,38 @@ static unsigned random_below(unsigned bound) {
     return (unsigned)(random_state >> 33) % bound;
 }
 
-/* A table with its n and m. */
-struct table { uint64_t n, m, words[2 * MOST_MONOMIALS]; };
+/* A table with its n, m and degree. */
+struct table { uint64_t n, m; unsigned degree; uint64_t words[2 * MOST_MONOMIALS]; };
 
-static size_t length(const struct table *t) { return 2 * monomials(t->n); }
+static size_t length(const struct table *t) { return 2 * monomials(t->n, t->degree); }
 
-static struct table pack(uint64_t n, uint64_t m, const int8_t *rows) {
-    struct table t = {n, m, {0}};
-    EXPECT(reference_pack(n, m, rows, m * monomials(n), t.words, length(&t)) == 0);
+static struct table pack_degree(uint64_t n, uint64_t m, unsigned degree, const int8_t *rows) {
+    struct table t = {n, m, degree, {0}};
+    EXPECT(reference_pack(n, m, rows, m * monomials(n, degree), t.words, length(&t)) == 0);
     return t;
 }
 
+static struct table pack(uint64_t n, uint64_t m, const int8_t *rows) {
+    return pack_degree(n, m, 2, rows);
+}
+
 static struct table differences(const struct table *c) {
-    struct table d = {c->n, c->m, {0}};
+    struct table d = {c->n, c->m, c->degree, {0}};
     EXPECT(reference_differences(c->n, c->m, c->words, length(c), d.words, length(&d)) == 0);
     return d;
 }
 
-static struct table random_system(uint64_t n, uint64_t m) {
-    int8_t rows[MOST_EQUATIONS * MOST_MONOMIALS];
-    for (size_t k = 0; k < m * monomials(n); k++)
+static struct table coefficients(const struct table *d) {
+    struct table c = {d->n, d->m, d->degree, {0}};
+    EXPECT(reference_coefficients(d->n, d->m, d->words, length(d), c.words, length(&c)) == 0);
+    return c;
+}
+
+static struct table random_system(uint64_t n, uint64_t m, unsigned degree) {
+    static int8_t rows[MOST_EQUATIONS * MOST_MONOMIALS];
+    for (size_t k = 0; k < m * monomials(n, degree); k++)
         rows[k] = (int8_t)((int)random_below(256) - 128);
-    return pack(n, m, rows);
+    return pack_degree(n, m, degree, rows);
 }
 
 /* A search: the record, the list and the answer after it. */
@@ -88,7 +98,7 @@ static void signed_numbers_and_trits(void) {
     t = pack(1, 1, twice); /* 2 times 2 is 1 */
     EXPECT(reference_evaluate(1, 1, t.words, 6, 2, value, 2) == 0);
     EXPECT(value[0] == 1 && value[1] == 0);
-    EXPECT(monomials(1) == 3 && monomials(2) == 6 && monomials(20) == 231);
+    EXPECT(monomials(1, 2) == 3 && monomials(2, 2) == 6 && monomials(20, 2) == 231);
     EXPECT(product_index(3, 0, 0) == 4 && product_index(3, 0, 2) == 6);
     EXPECT(product_index(3, 1, 1) == 7 && product_index(3, 2, 2) == 9);
 }
@@ -173,11 +183,10 @@ static void balanced_numbers(void) {
 static void edge_equation(void) {
     static const uint64_t words[12] = {1, 1, 1, 0, 0, 0, 1, 1, 0, 0, 1, 0};
     static const uint64_t list[6] = {1, 2, 5, 3, 7, 6};
-    struct table c = pack(2, 1, EDGE), d = differences(&c), back = {2, 1, {0}};
+    struct table c = pack(2, 1, EDGE), d = differences(&c), back = coefficients(&d);
     uint64_t value[2];
     struct run r;
     EXPECT(memcmp(d.words, words, sizeof words) == 0);
-    EXPECT(reference_coefficients(2, 1, d.words, 12, back.words, 12) == 0);
     EXPECT(memcmp(back.words, c.words, sizeof c.words) == 0);
     for (uint64_t point = 0; point < 9; point++) {
         EXPECT(reference_evaluate(2, 1, c.words, 12, point, value, 2) == 0);
@@ -210,15 +219,15 @@ static void small_systems(void) {
     EXPECT(gives(&d, NO_LIMIT, 9, all, 0, ENDED, 3, 3, 3));
 }
 
-static void additions_of_whole_walks(void) {
-    static const uint64_t totals[5] = {0, 3, 14, 49, 156};
-    for (unsigned n = 1; n <= 4; n++) {
-        struct table c = random_system(n, 5), d = differences(&c);
+/* Whole walks of degree 2 or 3, with these additions for n = 1, 2, ... */
+static void additions_of(unsigned degree, unsigned most, const uint64_t *totals) {
+    for (unsigned n = 1; n <= most; n++) {
+        struct table c = random_system(n, 5, degree), d = differences(&c);
         uint64_t additions = 0;
         struct run r;
         start(&r, &d, 0);
         go_on(&r, &d, NO_LIMIT, 100);
-        EXPECT(r.refusal == 0 && r.answer[ANSWER_ADDITIONS] == totals[n]);
+        EXPECT(r.refusal == 0 && r.answer[ANSWER_ADDITIONS] == totals[n - 1]);
         EXPECT(r.answer[ANSWER_POINTS] == power_of_three(n));
         start(&r, &d, 0);
         do { /* and a point per call */
@@ -228,13 +237,30 @@ static void additions_of_whole_walks(void) {
             EXPECT(r.refusal == 0 && r.answer[ANSWER_POINTS] == 1);
             EXPECT(r.record[RECORD_PLACE] == place + 1);
         } while (r.answer[ANSWER_STOP] != ENDED);
-        EXPECT(additions == totals[n]);
+        EXPECT(additions == totals[n - 1]);
     }
-    for (uint64_t p = 1, power = 1; p < 1000; p++) { /* "1 at powers of three" */
-        EXPECT(cost_of(p) == (p == power ? 1u : 2u));
+}
+
+/* "2 additions ... 1 at powers of three"; C-12: "3 times (3^n - 1), less 2n, less n(n+1)/2: 17 at
+ * n = 2". */
+static void additions_of_whole_walks(void) {
+    static const uint64_t quadratic[4] = {3, 14, 49, 156}, cubic[5] = {3, 17, 66, 222, 701};
+    unsigned position[2 * MOST_UNKNOWNS];
+    additions_of(2, 4, quadratic);
+    additions_of(3, 5, cubic);
+    for (uint64_t p = 1, power = 1; p < 1000; p++) {
+        unsigned count = positions_of(p, position);
+        EXPECT(cost_of(p, 2) == (p == power ? 1u : 2u));
+        EXPECT(cost_of(p, 3) == (count < 3 ? count : 3));
         power = p == power ? 3 * power : power;
     }
-    EXPECT(cost_of(0) == 0);
+    for (uint64_t n = 1; n <= 8; n++) {
+        uint64_t end = power_of_three((unsigned)n), sum = 0;
+        for (uint64_t p = 0; p < end; p++)
+            sum += cost_of(p, 3);
+        EXPECT(sum == 3 * (end - 1) - 2 * n - n * (n + 1) / 2);
+    }
+    EXPECT(cost_of(0, 2) == 0 && cost_of(0, 3) == 0);
 }
 
 /* Trit by trit, to = to + factor * from, on pairs of words. */
@@ -264,13 +290,12 @@ static void difference_before(const struct table *c, uint64_t move, unsigned b, 
     add_pair(pair, here, -1);
 }
 
-/* The four formulas against evaluation: the constant is the system at 0, the entry of xi the
- * difference at its first move, that of xi*xj what the difference changes by when i moves at
- * 3^i + 3^j after having moved last before it. */
-static void formulas_by_evaluating(const struct table *c) {
-    struct table d = differences(c), back = {c->n, c->m, {0}};
+/* The entries against evaluation: the constant is the system at 0, the entry of xi the difference at
+ * its first move, that of xi*xj what the difference changes by when i moves at 3^i + 3^j after
+ * having moved last before it. Both degrees have these; and a table comes from its coefficients. */
+static void entries_by_evaluating(const struct table *c) {
+    struct table d = differences(c), back = coefficients(&d);
     uint64_t pair[2], older[2];
-    EXPECT(reference_coefficients(d.n, d.m, d.words, length(&d), back.words, length(&d)) == 0);
     EXPECT(memcmp(back.words, c->words, sizeof back.words) == 0);
     evaluate(c, 0, pair);
     EXPECT(memcmp(pair, d.words, sizeof pair) == 0);
@@ -287,59 +312,284 @@ static void formulas_by_evaluating(const struct table *c) {
     }
 }
 
-/* "Examining place p", the incremental rule of the document, from one opened record on: after
- * each place it has to give the record that opening there gives. */
+/* Examining a place by the documents' rules, on a record. Degree 2: "the table entry of xb*xc is
+ * added to slot b, then slot b to the value". C-12: "A place with three positions or more adds the
+ * triple's entry to the second slot, that to slot b, that to the value"; two positions add the
+ * second slot to slot b. */
+static void examine(const struct table *d, uint64_t place, uint64_t *record) {
+    unsigned at[2 * MOST_UNKNOWNS];
+    unsigned count = positions_of(place, at);
+    uint64_t *slot = record + RECORD_SLOTS + 2 * (count > 0 ? at[0] : 0);
+    record[RECORD_PLACE] = place + 1;
+    if (count > 1 && d->degree == 2)
+        add_pair(slot, d->words + 2 * product_index(d->n, at[0], at[1]), 1);
+    if (count > 1 && d->degree == 3) {
+        uint64_t *second = record + second_slot(at[0], at[1]);
+        if (count > 2) add_pair(second, d->words + 2 * triple_index(d->n, at[0], at[1], at[2]), 1);
+        add_pair(slot, second, 1);
+    }
+    if (count > 0)
+        add_pair(record + RECORD_VALUE, slot, 1);
+}
+
+/* The incremental rule from one opened record on: after each place it has to give the record that
+ * opening there gives. */
 static void walk_against_opening(const struct table *d, uint64_t place, unsigned places) {
     uint64_t walked[RECORD_WORDS], opened[RECORD_WORDS];
-    unsigned position[2 * MOST_UNKNOWNS];
     EXPECT(reference_open(d->n, d->m, d->words, length(d), place, walked, RECORD_WORDS) == 0);
     for (; places-- > 0 && place < power_of_three((unsigned)d->n); place++) {
-        unsigned count = positions_of(place, position);
-        uint64_t *slot = walked + RECORD_SLOTS + 2 * (count > 0 ? position[0] : 0);
-        if (count > 1)
-            add_pair(slot, d->words + 2 * product_index(d->n, position[0], position[1]), 1);
-        if (count > 0)
-            add_pair(walked + RECORD_VALUE, slot, 1);
-        walked[RECORD_PLACE] = place + 1;
+        examine(d, place, walked);
         EXPECT(reference_open(d->n, d->m, d->words, length(d), place + 1, opened,
                               RECORD_WORDS) == 0);
         EXPECT(memcmp(walked, opened, sizeof opened) == 0);
     }
 }
 
-static void records(void) {
+/* The latest moves of an unknown and of a pair, through all places. */
+static void latest_places(void) {
     unsigned position[2 * MOST_UNKNOWNS];
-    for (unsigned b = 0; b < 6; b++) /* the latest move, through all places */
-        for (uint64_t q = 0, latest = 0; q < 800; q++) {
-            if (positions_of(q, position) > 0 && position[0] == b)
-                latest = q;
-            EXPECT(latest_move(b, q) == latest);
-        }
-    for (unsigned n = 1; n <= 5; n++)
-        for (unsigned k = 0; k < 5; k++) {
-            static const unsigned m[5] = {1, 2, 7, 63, 64};
-            struct table c = random_system(n, m[k]), d = differences(&c);
-            formulas_by_evaluating(&c);
-            walk_against_opening(&d, 0, 243);
-        }
-    {
-        struct table c = random_system(20, 64), d = differences(&c);
+    for (unsigned b = 0; b < 6; b++)
+        for (unsigned c = b; c < 7; c++) /* c = 6: of b alone */
+            for (uint64_t q = 0, latest = 0; q < 800; q++) {
+                unsigned count = positions_of(q, position);
+                if (count > 0 && position[0] == b && (c == 6 || (count > 1 && position[1] == c)))
+                    latest = q;
+                EXPECT((c == 6 ? latest_move(b, q) : latest_pair(b, c, q)) == latest);
+            }
+}
+
+static void records(void) {
+    static const unsigned m[5] = {1, 2, 7, 63, 64};
+    latest_places();
+    for (unsigned degree = 2; degree <= 3; degree++) {
         uint64_t end = power_of_three(20), record[RECORD_WORDS];
-        formulas_by_evaluating(&c);
+        for (unsigned k = 0; k < 25; k++) {
+            unsigned n = 1 + k / 5;
+            struct table c = random_system(n, m[k % 5], degree), d = differences(&c);
+            entries_by_evaluating(&c);
+            if (n > 1) walk_against_opening(&d, 0, 243);
+        }
+        struct table c = random_system(20, 64, degree), d = differences(&c);
+        entries_by_evaluating(&c);
         walk_against_opening(&d, 0, 60);
         walk_against_opening(&d, end / 2 - 20, 40);
         walk_against_opening(&d, 2 * power_of_three(19) - 10, 20);
+        walk_against_opening(&d, power_of_three(19) + power_of_three(18) - 10, 20);
         walk_against_opening(&d, end - 40, 40);
-        EXPECT(reference_open(20, 64, d.words, 462, end, record, RECORD_WORDS) == 0);
-        EXPECT(reference_open(20, 64, d.words, 462, end + 1, record, RECORD_WORDS) == 4);
+        EXPECT(reference_open(20, 64, d.words, length(&d), end, record, RECORD_WORDS) == 0);
+        EXPECT(reference_open(20, 64, d.words, length(&d), end + 1, record, RECORD_WORDS) == 4);
     }
+}
+
+/* ---- degree 3 ---- */
+
+/* A row of degree 3 at a point: the products in the order that C-12 tells. */
+static int row_at(unsigned n, const int8_t *row, uint64_t point) {
+    int x[MOST_UNKNOWNS], sum = *row++;
+    for (unsigned i = 0; i < n; i++, point /= 3)
+        x[i] = (int)(point % 3);
+    for (unsigned i = 0; i < n; i++)
+        sum += *row++ * x[i];
+    for (unsigned i = 0; i < n; i++)
+        for (unsigned j = i; j < n; j++)
+            sum += *row++ * x[i] * x[j];
+    for (unsigned i = 0; i < n; i++)
+        for (unsigned j = i; j < n; j++)
+            for (unsigned k = j; k < n; k++)
+                if (i != j || j != k) sum += *row++ * x[i] * x[j] * x[k];
+    return remainder_of(sum);
+}
+
+static void cubic_monomials(void) {
+    static const size_t counts[21] = {1, 3, 8, 17, 31, 51, [20] = 1751};
+    for (unsigned n = 1; n <= 20; n++)
+        EXPECT(counts[n] == 0 || monomials(n, 3) == counts[n]);
+    EXPECT(triple_index(3, 0, 0, 1) == 10 && triple_index(3, 0, 0, 2) == 11);
+    EXPECT(triple_index(3, 0, 1, 1) == 12 && triple_index(3, 0, 1, 2) == 13);
+    EXPECT(triple_index(3, 0, 2, 2) == 14 && triple_index(3, 1, 1, 2) == 15);
+    EXPECT(triple_index(3, 1, 2, 2) == 16 && triple_index(20, 18, 19, 19) == 1750);
+    EXPECT(degree_of(1, 6) == 2 && degree_of(2, 12) == 2 && degree_of(2, 16) == 3);
+    EXPECT(degree_of(20, 462) == 2 && degree_of(20, 3502) == 3 && degree_of(20, 3500) == 0);
+    EXPECT(second_slot(0, 0) == 45 && second_slot(0, 19) == 83 && second_slot(1, 1) == 85);
+    EXPECT(second_slot(19, 19) == 463);
+}
+
+/* Evaluation of rows at every point, and of one row at far ones. */
+static void cubic_evaluation(void) {
+    static int8_t row[MOST_MONOMIALS];
+    for (unsigned n = 1; n <= 20; n += n < 5 ? 1 : 15) {
+        uint64_t end = power_of_three(n), value[2];
+        for (size_t k = 0; k < monomials(n, 3); k++)
+            row[k] = (int8_t)((int)random_below(256) - 128);
+        struct table c = pack_degree(n, 1, 3, row);
+        for (uint64_t k = 0; k < (n < 6 ? end : 200); k++) {
+            uint64_t point = n < 6 ? k : (k * 2654435761u + random_below(1000)) % end;
+            EXPECT(reference_evaluate(n, 1, c.words, length(&c), point, value, 2) == 0);
+            EXPECT((int)(value[0] + value[1]) == row_at(n, row, point));
+        }
+    }
+}
+
+/* A search by plain arithmetic of a whole walk: the zeros in the order of places. */
+static void cubic_lists(void) {
+    for (unsigned n = 2; n <= 4; n++)
+        for (unsigned k = 0; k < 6; k++) {
+            int8_t row[31];
+            uint64_t list[81], found = 0, point;
+            for (size_t i = 0; i < monomials(n, 3); i++)
+                row[i] = (int8_t)random_below(3);
+            struct table c = pack_degree(n, 1, 3, row), d = differences(&c);
+            for (uint64_t place = 0; place < power_of_three(n); place++)
+                if (reference_point(n, place, &point, 1) == 0 && row_at(n, row, point) == 0)
+                    list[found++] = point;
+            EXPECT(gives(&d, NO_LIMIT, 100, list, found, ENDED, power_of_three(n), power_of_three(n),
+                         (uint64_t[]){17, 66, 222}[n - 2]));
+        }
+}
+
+/* By hand, n = 2: 1 + 2x0 + x1 + x0x0 + x0x1 + 2x1x1 + x0x0x1 + x0x1x1. Along the walk, at the
+ * points 0, 1, 2, 5, 3, 4, 7, 8, 6, its values are 1, 1, 0, 2, 1, 1, 1, 0, 2. So place 1 adds 0 to
+ * the value and place 2 adds 2, which changes slot 0 by 2; place 3 adds 2. The rest comes from these
+ * in the same way: the differences are 1, 0, 2, 2, 0, 1, 2, 2. */
+static void cubic_by_hand(void) {
+    static const int8_t row[8] = {1, 2, 1, 1, 1, 2, 1, 1};
+    static const int values[9] = {1, 1, 0, 2, 1, 1, 1, 0, 2}, told[8] = {1, 0, 2, 2, 0, 1, 2, 2};
+    static const uint64_t points[9] = {0, 1, 2, 5, 3, 4, 7, 8, 6}, list[2] = {2, 8};
+    struct table c = pack_degree(2, 1, 3, row), d = differences(&c);
+    int entry[8];
+    for (unsigned p = 0; p < 9; p++)
+        EXPECT(row_at(2, row, points[p]) == values[p]);
+    for (unsigned k = 0; k < 8; k++)
+        entry[k] = (int)(d.words[2 * k] + d.words[2 * k + 1]);
+    EXPECT(memcmp(entry, told, sizeof told) == 0);
+    EXPECT(entry[0] == values[0]);
+    EXPECT(entry[1] == remainder_of(values[1] - values[0]));
+    EXPECT(entry[2] == remainder_of(values[3] - values[2]));
+    EXPECT(entry[3] == remainder_of(values[2] - values[1] - (values[1] - values[0])));
+    EXPECT(entry[4] == remainder_of(values[4] - values[3] - (values[2] - values[1])));
+    EXPECT(entry[5] == remainder_of(values[6] - values[5] - (values[3] - values[2])));
+    /* place 5 is 0, 0, 1 and place 2 was 0, 0 before it; place 7 is 0, 1, 1 and place 4 was 0, 1 */
+    EXPECT(entry[6] == remainder_of(values[5] - values[4] - (values[4] - values[3])
+                                    - (values[2] - values[1] - (values[1] - values[0]))));
+    EXPECT(entry[7] == remainder_of(values[7] - values[6] - (values[5] - values[4])
+                                    - (values[4] - values[3] - (values[2] - values[1]))));
+    EXPECT(gives(&d, NO_LIMIT, 100, list, 2, ENDED, 9, 9, 17));
+    EXPECT(gives(&d, 6, 2, list, 1, SPENT, 6, 6, 9));
+    EXPECT(gives(&d, 9, 1, list, 1, FULL, 3, 3, 3));
+}
+
+/* x0*x1*x2 + 2 at n = 3 is 0 where the product is 1. */
+static void three_way(void) {
+    int8_t row[17] = {2};
+    static const uint64_t list[4] = {17, 13, 23, 25};
+    row[triple_index(3, 0, 1, 2)] = 1;
+    struct table c = pack_degree(3, 1, 3, row), d = differences(&c);
+    EXPECT(gives(&d, NO_LIMIT, 100, list, 4, ENDED, 27, 27, 66));
+}
+
+/* A system of degree 2 as one of degree 3: the same table with zeros behind, the same lists, and
+ * more additions. */
+static void quadratic_as_cubic(void) {
+    for (unsigned n = 2; n <= 4; n++) {
+        struct table c = random_system(n, 1 + n / 2, 2), d = differences(&c), c3 = c, d3;
+        struct run r, r3;
+        c3.degree = 3;
+        d3 = differences(&c3);
+        EXPECT(memcmp(d.words, d3.words, sizeof d.words) == 0);
+        start(&r, &d, 0);
+        start(&r3, &d3, 0);
+        go_on(&r, &d, NO_LIMIT, 100);
+        go_on(&r3, &d3, NO_LIMIT, 100);
+        EXPECT(r.refusal == 0 && r3.refusal == 0 && memcmp(r.list, r3.list, sizeof r.list) == 0);
+        EXPECT(r.answer[ANSWER_ADDITIONS] < r3.answer[ANSWER_ADDITIONS]);
+        EXPECT(memcmp(r.record, r3.record, RECORD_SECONDS * sizeof *r.record) == 0);
+        go_on(&r3, &d, 1, 1); /* a record of the other degree, where its second slots are not 0 */
+        EXPECT(r3.refusal == (memcmp(r.record, r3.record, sizeof r.record) == 0 ? 0 : 5));
+    }
+}
+
+/* Every legal table comes from one system: the other way round, from a random table. */
+static void every_table(void) {
+    for (unsigned n = 1; n <= 20; n++) {
+        struct table d = random_system(n, 64, 3), c = coefficients(&d), again = differences(&c);
+        EXPECT(memcmp(again.words, d.words, sizeof d.words) == 0);
+    }
+}
+
+/* At n = 1 a table is read either way: opening gives the record of degree 2, the search takes both
+ * and moves each on in its own reading. */
+static void one_unknown(void) {
+    static const int8_t row[3] = {1, 0, 2};
+    struct table c = pack(1, 1, row), d = differences(&c);
+    struct run r, other;
+    start(&r, &d, 0);
+    for (size_t k = RECORD_SECONDS; k < RECORD_WORDS; k++)
+        EXPECT(r.record[k] == 0);
+    EXPECT(d.words[4] == 1 && d.words[5] == 0);
+    other = r;
+    other.record[second_slot(0, 0)] = d.words[4];
+    for (unsigned calls = 0; calls < 3; calls++) {
+        go_on(&r, &d, 1, 3);
+        go_on(&other, &d, 1, 3);
+        EXPECT(r.refusal == 0 && other.refusal == 0);
+        EXPECT(memcmp(r.answer, other.answer, sizeof r.answer) == 0);
+        EXPECT(memcmp(r.record, other.record, RECORD_SECONDS * sizeof *r.record) == 0);
+        EXPECT(r.record[second_slot(0, 0)] == 0 && other.record[second_slot(0, 0)] == d.words[4]);
+    }
+    other.record[second_slot(0, 0) + 1] = 1;
+    go_on(&other, &d, 1, 3);
+    EXPECT(other.refusal == 5);
+    other.record[second_slot(0, 0) + 1] = 0;
+    other.record[second_slot(0, 1)] = 1;
+    go_on(&other, &d, 1, 3);
+    EXPECT(other.refusal == 5);
+}
+
+/* Lengths of the other degree, illegal triples, and every word of a record of degree 3. */
+static void cubic_refusals(void) {
+    struct table c = random_system(3, 2, 3), d = differences(&c);
+    static int8_t rows[34];
+    uint64_t words[34];
+    struct run r;
+    EXPECT(reference_pack(3, 2, rows, 34, words, 34) == 0);
+    EXPECT(reference_pack(3, 2, rows, 20, words, 20) == 0);
+    EXPECT(reference_pack(3, 2, rows, 20, words, 34) == 2);
+    EXPECT(reference_pack(3, 2, rows, 34, words, 20) == 2);
+    EXPECT(reference_check(3, 2, c.words, 34) == 0 && reference_check(3, 2, c.words, 32) == 2);
+    EXPECT(reference_differences(3, 2, c.words, 34, words, 20) == 2);
+    EXPECT(reference_differences(3, 2, c.words, 20, words, 34) == 2);
+    EXPECT(reference_coefficients(3, 2, d.words, 20, words, 34) == 2);
+    EXPECT(reference_evaluate(3, 2, c.words, 33, 0, words, 2) == 2);
+    start(&r, &d, 14);
+    for (unsigned word = 0; word < RECORD_WORDS; word++) {
+        r.record[word] ^= 1;
+        go_on(&r, &d, 1, 1);
+        EXPECT(r.refusal == 5);
+        r.record[word] ^= 1;
+    }
+    d.words[33] = 4; /* the last entry's low word */
+    EXPECT(reference_check(3, 2, d.words, 34) == 3 + 256 * 16);
+    go_on(&r, &d, 0, 1);
+    EXPECT(r.refusal == 3 + 256 * 16);
+}
+
+static void degree_three(void) {
+    cubic_monomials();
+    cubic_evaluation();
+    cubic_lists();
+    cubic_by_hand();
+    three_way();
+    quadratic_as_cubic();
+    every_table();
+    one_unknown();
+    cubic_refusals();
 }
 
 /* Faults are taken away one after another; what is lent must stay as it was. */
 static void refusal_order(void) {
-    struct table c = random_system(2, 3), d = differences(&c), kept;
+    struct table c = random_system(2, 3, 2), d = differences(&c), kept;
     struct run r, before;
-    uint8_t table[96], record[360], list[16] = {9, 9, 9}, answer[40] = {7};
+    uint8_t table[96], record[3720], list[16] = {9, 9, 9}, answer[40] = {7};
     d.words[3] |= 1; /* an illegal pair */
     d.words[2] &= ~(uint64_t)1;
     kept = d;
@@ -348,26 +598,26 @@ static void refusal_order(void) {
     before = r;
 #define SEARCH(n, t_len, r_len, budget, l_len, a_len) \
     reference_search_words(n, 3, d.words, t_len, r.record, r_len, budget, r.list, l_len, r.answer, a_len)
-    EXPECT(SEARCH(21, 11, 44, 0, 0, 4) == 1);
-    EXPECT(SEARCH(2, 11, 45, 0, 0, 5) == 2);
-    EXPECT(SEARCH(2, 12, 44, 0, 0, 5) == 2);
-    EXPECT(SEARCH(2, 12, 45, 0, 0, 6) == 2);
-    EXPECT(SEARCH(2, 12, 45, 0, 0, 5) == 3 + 256);
+    EXPECT(SEARCH(21, 11, 464, 0, 0, 4) == 1);
+    EXPECT(SEARCH(2, 11, 465, 0, 0, 5) == 2);
+    EXPECT(SEARCH(2, 12, 464, 0, 0, 5) == 2);
+    EXPECT(SEARCH(2, 12, 465, 0, 0, 6) == 2);
+    EXPECT(SEARCH(2, 12, 465, 0, 0, 5) == 3 + 256);
     EXPECT(memcmp(&kept, &d, sizeof d) == 0 && memcmp(&before, &r, sizeof r) == 0);
     d = differences(&c);
-    EXPECT(SEARCH(2, 12, 45, 0, 0, 5) == 5);
+    EXPECT(SEARCH(2, 12, 465, 0, 0, 5) == 5);
     start(&r, &d, 4);
     before = r;
     for (unsigned word = 0; word < RECORD_WORDS; word++) {
         r.record[word] ^= 1;
-        EXPECT(SEARCH(2, 12, 45, 0, 0, 5) == 5);
+        EXPECT(SEARCH(2, 12, 465, 0, 0, 5) == 5);
         r.record[word] ^= 1;
     }
     r.record[RECORD_PLACE] = 10;
-    EXPECT(SEARCH(2, 12, 45, 1, 1, 5) == 5);
+    EXPECT(SEARCH(2, 12, 465, 1, 1, 5) == 5);
     r.record[RECORD_PLACE] = 4;
-    EXPECT(SEARCH(2, 12, 45, 0, 0, 5) == 6);
-    EXPECT(SEARCH(2, 12, 45, 1, 0, 5) == 7);
+    EXPECT(SEARCH(2, 12, 465, 0, 0, 5) == 6);
+    EXPECT(SEARCH(2, 12, 465, 1, 0, 5) == 7);
     EXPECT(memcmp(&before, &r, sizeof r) == 0);
 #undef SEARCH
     /* the harness's bytes: the same, lowest byte first */
@@ -375,14 +625,14 @@ static void refusal_order(void) {
         put_word(table + 8 * k, d.words[k]);
     for (unsigned k = 0; k < RECORD_WORDS; k++)
         put_word(record + 8 * k, r.record[k]);
-    EXPECT(reference_search(2, 65, table, 95, record, 359, 0, list, 7, answer, 39) == 1);
-    EXPECT(reference_search(2, 3, table, 95, record, 360, 0, list, 0, answer, 40) == 2);
-    EXPECT(reference_search(2, 3, table, 96, record, 361, 0, list, 0, answer, 40) == 2);
-    EXPECT(reference_search(2, 3, table, 96, record, 360, 0, list, 7, answer, 40) == 2);
-    EXPECT(reference_search(2, 3, table, 96, record, 360, 0, list, 0, answer, 32) == 2);
-    EXPECT(reference_search(2, 3, table, 96, record, 360, 0, list, 0, answer, 40) == 6);
+    EXPECT(reference_search(2, 65, table, 95, record, 3719, 0, list, 7, answer, 39) == 1);
+    EXPECT(reference_search(2, 3, table, 95, record, 3720, 0, list, 0, answer, 40) == 2);
+    EXPECT(reference_search(2, 3, table, 96, record, 3721, 0, list, 0, answer, 40) == 2);
+    EXPECT(reference_search(2, 3, table, 96, record, 3720, 0, list, 7, answer, 40) == 2);
+    EXPECT(reference_search(2, 3, table, 96, record, 3720, 0, list, 0, answer, 32) == 2);
+    EXPECT(reference_search(2, 3, table, 96, record, 3720, 0, list, 0, answer, 40) == 6);
     EXPECT(answer[0] == 7 && record[16] == 4 && list[0] == 9);
-    EXPECT(reference_search(2, 3, table, 96, record, 360, 2, list, 16, answer, 40) == 0);
+    EXPECT(reference_search(2, 3, table, 96, record, 3720, 2, list, 16, answer, 40) == 0);
     EXPECT(answer[0] == SPENT && answer[8] == 6 && answer[16] == 2 && answer[24] == 4);
     EXPECT(record[0] == 2 && record[8] == 3 && record[16] == 6 && record[17] == 0);
     /* the other operations, two faults at a time */
@@ -394,9 +644,9 @@ static void refusal_order(void) {
     EXPECT(reference_evaluate(2, 3, d.words, 12, 9, r.list, 1) == 2);
     EXPECT(reference_evaluate(2, 3, d.words, 12, 9, r.list, 2) == 3);
     EXPECT(reference_evaluate(2, 3, c.words, 12, 9, r.list, 2) == 4);
-    EXPECT(reference_open(2, 3, d.words, 12, 10, r.list, 44) == 2);
-    EXPECT(reference_open(2, 3, d.words, 12, 10, r.list, 45) == 3);
-    EXPECT(reference_open(2, 3, c.words, 12, 10, r.list, 45) == 4);
+    EXPECT(reference_open(2, 3, d.words, 12, 10, r.list, 464) == 2);
+    EXPECT(reference_open(2, 3, d.words, 12, 10, r.list, 465) == 3);
+    EXPECT(reference_open(2, 3, c.words, 12, 10, r.list, 465) == 4);
     EXPECT(reference_differences(2, 3, d.words, 12, r.list, 11) == 2);
     EXPECT(reference_differences(2, 3, d.words, 12, r.list, 12) == 3);
     EXPECT(reference_coefficients(2, 3, d.words, 12, r.list, 12) == 3);
@@ -410,7 +660,7 @@ static int reads(const char *text, uint64_t refusal, uint64_t line) {
     uint64_t got;
     memset(words, 0x5a, sizeof words);
     got = reference_read((const uint8_t *)text, strlen(text), words, READER_WORDS, &g);
-    for (size_t k = got == 0 ? 2 * monomials(g.n) : 0; k < READER_WORDS; k++)
+    for (size_t k = got == 0 ? 2 * monomials(g.n, 2) : 0; k < READER_WORDS; k++)
         if (words[k] != UINT64_C(0x5a5a5a5a5a5a5a5a)) return 0;
     return got == refusal && g.line == line;
 }
@@ -423,6 +673,7 @@ static uint64_t colourings(const char *text) {
     EXPECT(reference_read((const uint8_t *)text, strlen(text), c.words, READER_WORDS, &g) == 0);
     c.n = g.n;
     c.m = g.m;
+    c.degree = 2;
     d = differences(&c);
     start(&r, &d, 0);
     go_on(&r, &d, NO_LIMIT, 100);
@@ -506,6 +757,7 @@ int main(void) {
     small_systems();
     additions_of_whole_walks();
     records();
+    degree_three();
     refusal_order();
     graphs();
     printf("%u passed, %u failed\n", passed, failed);

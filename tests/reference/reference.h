@@ -1,7 +1,10 @@
-/* A second program for document 01, "The intended build and its rules", written from that
- * document alone. It shares no code and no table with the engine. Everything is plain
- * arithmetic on small integers: a system is evaluated from scratch at each point, and a
- * record is worked out from the document's words about it, never by walking.
+/* A second program for document 01, "The intended build and its rules", and for the tickets of
+ * document 02 that have landed, written from these two alone. It shares no code and no table with
+ * the engine. Everything is plain arithmetic on small integers: a system is evaluated from scratch
+ * at each point, and a record is worked out from the documents' words about it, never by walking.
+ *
+ * A table's length tells its degree, 2 or 3 (C-12). At n = 1, where both lengths are 6 words, it is
+ * read as degree 2; the search takes a record of either reading there.
  *
  * Every operation gives back a refusal number, or 0; of an illegal pair 3 plus 256 times its entry. "A refusal gives its number alone ... and
  * alters nothing lent. Order: 1, 2, 3, 4, 5, 6, 7, each over all arguments before the next."
@@ -15,8 +18,9 @@
 enum {
     MOST_UNKNOWNS = 20,   /* "n from 1 to 20" */
     MOST_EQUATIONS = 64,  /* "m from 1 to 64" */
-    MOST_MONOMIALS = 231, /* "231 at n = 20" */
-    RECORD_WORDS = 45,    /* "n, m, place, value, then 20 slots, high before low: 360 bytes" */
+    MOST_MONOMIALS = 1751, /* C-12: "1,751 at n = 20" */
+    RECORD_WORDS = 465,   /* "n, m, place, value, then 20 slots, high before low"; C-12: a second
+                             slot for each of the 210 pairs; "sized and ordered as at n = 20" */
     ANSWER_WORDS = 5,     /* "five words in a lent 40 bytes" */
     READER_WORDS = 462,   /* "fewer than 462 words lent to the reader" */
     READER_BYTES = 32768, /* "text above 32,768 bytes" */
@@ -24,7 +28,7 @@ enum {
 };
 
 /* Places of the words in a record and in an answer, and the values of the stop. */
-enum { RECORD_N, RECORD_M, RECORD_PLACE, RECORD_VALUE, RECORD_SLOTS = 5 };
+enum { RECORD_N, RECORD_M, RECORD_PLACE, RECORD_VALUE, RECORD_SLOTS = 5, RECORD_SECONDS = 45 };
 enum { ANSWER_STOP, ANSWER_PLACE, ANSWER_POINTS, ANSWER_ADDITIONS, ANSWER_FOUND };
 enum { ENDED = 0, FULL = 1, SPENT = 2 };
 
@@ -40,7 +44,7 @@ uint64_t reference_coefficients(uint64_t n, uint64_t m, const uint64_t *table, s
                                 uint64_t *coefficients, size_t coefficients_len);
 
 /* The system at a point, 2 words, high then low; the record of a table of differences at a
- * place, 45 words. */
+ * place, 465 words. */
 uint64_t reference_evaluate(uint64_t n, uint64_t m, const uint64_t *coefficients,
                             size_t coefficients_len, uint64_t point,
                             uint64_t *value, size_t value_len);
@@ -70,11 +74,15 @@ uint64_t reference_read(const uint8_t *text, size_t text_len, uint64_t *words, s
 /* Parts, shown so that the self tests and the driver can use them. */
 int remainder_of(int number);                             /* 0, 1 or 2 */
 uint64_t power_of_three(unsigned k);                      /* 3^k */
-size_t monomials(uint64_t n);                             /* N */
+size_t monomials(uint64_t n, unsigned degree);            /* N, degree 2 or 3 */
+unsigned degree_of(uint64_t n, size_t table_len);         /* 2 or 3; 0: no table's length */
 size_t product_index(uint64_t n, unsigned i, unsigned j); /* of xi*xj, i <= j */
+size_t triple_index(uint64_t n, unsigned i, unsigned j, unsigned k); /* of xi*xj*xk, i <= j <= k */
+size_t second_slot(unsigned b, unsigned c);               /* its words in a record, b <= c */
 unsigned positions_of(uint64_t number, unsigned position[2 * MOST_UNKNOWNS]); /* how many */
-unsigned cost_of(uint64_t place);                         /* additions: 0, 1 or 2 */
+unsigned cost_of(uint64_t place, unsigned degree);        /* additions: 0 to the degree */
 uint64_t latest_move(unsigned b, uint64_t q);             /* of b at or before q; 0: none */
+uint64_t latest_pair(unsigned b, unsigned c, uint64_t q); /* with first two positions b, c */
 uint64_t word_at(const uint8_t *bytes);                   /* "8 bytes, lowest first" */
 void put_word(uint8_t *bytes, uint64_t word);
 

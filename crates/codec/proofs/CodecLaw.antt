@@ -135,6 +135,23 @@ unfolding wordsOf
 length-words zero b = refl
 length-words (suc k) b = ap suc (length-words k (drop 8 b))
 
+-- the words of two parts
+pub words-join : (j k : ℕ) (b : List ℕ) → wordsOf (j + k) b ≡ wordsOf j b ++ wordsOf k (drop (8 * j) b)
+unfolding wordsOf
+words-join zero k b = ap (λ (i : ℕ). wordsOf i b) (plain k)
+  where
+    plain : (k : ℕ) → 0 + k ≡ k
+    plain k = omega arith
+words-join (suc j) k b =
+    ap (λ (i : ℕ). wordsOf i b) (next j k)
+    ∙ ap (λ (m : List ℕ). valueOf (take 8 b) ∷ m) (words-join j k (drop 8 b) ∙ ap (λ (m : List ℕ). wordsOf j (drop 8 b) ++ wordsOf k m) (drop-drop (8 * j) 8 b ∙ ap (λ (i : ℕ). drop i b) (eight j)))
+  where
+    next : (j k : ℕ) → suc j + k ≡ suc (j + k)
+    next j k = omega arith
+
+    eight : (j : ℕ) → 8 + 8 * j ≡ 8 * suc j
+    eight j = omega arith
+
 pub from-append : (u v : List ℕ) → bytesFrom (u ++ v) ≡ bytesFrom u ++ bytesFrom v
 unfolding bytesFrom
 from-append [] v = refl

@@ -11,15 +11,14 @@ use Rattle.residues.specs.Sums.{sum}
 use Rattle.residues.proofs.ModLaw.{Cong, csym, cdrop}
 use Rattle.residues.proofs.SumLaw.{sum-ext, sum-add, sum-scale}
 use Rattle.trits.specs.declared.Vector.{Vector}
-use Rattle.trits.specs.Trit.{trit, Holds, ofTrits}
+use Rattle.trits.specs.Trit.{Holds, ofTrits}
 use Rattle.trits.proofs.ExtLaw.{of-ext}
-use Rattle.trits.proofs.HoldLaw.{holds-is, is-holds, holds-ext}
+use Rattle.trits.proofs.HoldLaw.{holds-is, holds-ext}
 use Rattle.gray.specs.Numbers.{digit}
 use Rattle.polynomials.specs.Poly.{valueOf}
-use Rattle.tables.specs.Monomials.{countOf, rowStart, indexOf}
+use Rattle.tables.specs.Monomials.{rowStart, indexOf}
 use Rattle.tables.specs.Words.{entry}
-use Rattle.tables.proofs.IndexLaw.{row-ge, count-is, index-lt}
-use Rattle.tables.proofs.VectorLaw.{of-self}
+use Rattle.tables.proofs.IndexLaw.{row-ge}
 use Rattle.evaluation.specs.Parts.{rowOf}
 use Rattle.evaluation.proofs.EvaluateLaw.{rowsPart, rows-whole}
 use Rattle.cubics.specs.Cubic.{Cubic, lowOf, cubesOf, cubicOf}
@@ -28,26 +27,10 @@ use Rattle.listed.specs.Lists.{Lists, Rising}
 use Rattle.listed.proofs.ListLaw.{sum-still, sum-listed}
 use Rattle.cubic_tables.specs.Order.{cubicCount, tripleIndex, keyOf}
 use Rattle.cubic_tables.specs.Words.{CubicTable, cubicAt, cubicValues}
-use Rattle.cubic_tables.proofs.OrderLaw.{pair-is, index-base, triple-lt, cubic-count-low}
-use Rattle.cubic_tables.proofs.WordsLaw.{const-at, lin-at, quad-at, cube-at, cube-none}
+use Rattle.cubic_tables.proofs.OrderLaw.{pair-is, index-base, triple-lt}
+use Rattle.cubic_tables.proofs.WordsLaw.{cube-none}
+use Rattle.cubic_tables.proofs.HoldsLaw.{cube-holds}
 use Rattle.cubic_evaluation.specs.Parts.{cellSum, planeSum}
-
--- ---- the entries hold the coefficients
-module _ (n m : ℕ) (t : List ℕ) (table : CubicTable n m t) where
-  own : (k : ℕ) → k < cubicCount n → Holds m (trit (entry t k)) (entry t k)
-  own k l = is-holds (of-self m (entry t k) (table .legal k l))
-
-  pub const-holds : Holds m (λ e. cubicAt n t e .const) (entry t 0)
-  const-holds = holds-ext (λ e l. ap (λ (y : ℕ). y % 3) (sym (const-at n t e))) (own 0 (omega (arith, cubic-count-low n, count-is n)))
-
-  pub lin-holds : (i : ℕ) → i < n → Holds m (λ e. cubicAt n t e .lin i) (entry t (1 + i))
-  lin-holds i h = holds-ext (λ e l. ap (λ (y : ℕ). y % 3) (sym (lin-at n t e i))) (own (1 + i) (omega (arith, cubic-count-low n, count-is n)))
-
-  pub quad-holds : (i j : ℕ) → i ≤ j → j < n → Holds m (λ e. cubicAt n t e .quad i j) (entry t (indexOf n i j))
-  quad-holds i j h k = holds-ext (λ e l. ap (λ (y : ℕ). y % 3) (sym (quad-at n t e i j))) (own (indexOf n i j) (omega (arith, cubic-count-low n, index-lt n i j h k)))
-
-  pub cube-holds : (i j k : ℕ) → i ≤ j → j ≤ k → i < k → k < n → Holds m (λ e. cubicAt n t e .cube i j k) (entry t (tripleIndex n i j k))
-  cube-holds i j k a b c d = holds-ext (λ e l. ap (λ (y : ℕ). y % 3) (sym (cube-at n t e i j k c))) (own (tripleIndex n i j k) (triple-lt n i j k a b c d))
 
 -- ---- where the products of the pair i, j stand: b is the number that the code works out, from p, the number of j, j among the pairs
 pub base-at : (n i j k b p : ℕ) → i ≤ j → j ≤ k → i < k → k < n → p ≡ rowStart n j → b ≡ keyOf n i + (p - j) → b + k ≡ tripleIndex n i j k

@@ -4,4 +4,5 @@ pub mod SumLaw
 pub mod WordsLaw
 pub mod Facts
 pub mod PackLaw
+pub mod HoldsLaw
 pub mod PairLaw

@@ -13,21 +13,28 @@ use Rattle.walks.specs.Runs.{Request, Sums, SaysEnded, WholeRun, askedIn}
 use Rattle.walks.specs.Zeros.{Distinct, placesIn}
 use Rattle.walks.specs.Cost.{costOf}
 use Rattle.walks.proofs.RunsLaw.{Adds, sums-are, ended-iff, calls-enough, calls-end, whole-run, run-once}
-use Rattle.walks.proofs.CostLaw.{whole-two}
-use Rattle.walk.proofs.CallLaw.{zeros-all, all-zeros}
-use Rattle.given.specs.Given.{Given, valuesOf, Checked}
+use Rattle.walks.proofs.CostLaw.{whole-two, whole-three}
+use Rattle.held.proofs.StandLaw.{zeros-all, all-zeros}
+use Rattle.given.specs.declared.Degree.{Degree}
+use Rattle.given.specs.declared.Degree.the-variants.{Two, Three}
+use Rattle.given.specs.Given.{Given, depthOf, valuesOf, Checked}
 use Rattle.given.proofs.ValuesLaw.{values-at}
 use Rattle.opening.specs.declared.Record.{Record}
 use Rattle.opening.specs.Opened.{openedAt}
 use Rattle.search.specs.Search.{trailBehind}
 use Rattle.search.proofs.TrailLaw.{end-is}
 use Rattle.demand.specs.Session.{callOf}
-use Rattle.demand.specs.Demand.{CommonZero, allAdditions, fromStart, WholeWalk}
+use Rattle.demand.specs.Demand.{CommonZero, additionsIn, allAdditions, fromStart, WholeWalk}
 use Rattle.opening.proofs.PlaceLaw.{two}
 use Rattle.demand.proofs.SessionLaw.{serves, willing}
 
 pub trans-iff : {A B C : Type 0} → A ↔ B → B ↔ C → A ↔ C
 trans-iff f g = (λ a. g .0 (f .0 a), λ c. f .1 (g .1 c))
+
+-- a walk whose places cost as in a degree
+cost-in : (d : Degree) (n : ℕ) (T : Trail) → ((p : ℕ) → T .cost p ≡ costOf 3 (depthOf d) p) → costIn T 0 (3 ^ n) ≡ additionsIn d n
+cost-in Two n T e = whole-two 3 two T n (λ p h. e p)
+cost-in Three n T e = whole-three 3 two T n (omega arith) (λ p h. e p)
 
 module _ (g : Given) where
   abbrev T : Trail
@@ -38,9 +45,9 @@ module _ (g : Given) where
   unfolding trailBehind
   distinct a b ha hb e = point-same 3 two (g .n) a b ha hb e
 
-  pub cost-all : g .degree ≡ 2 → costIn T 0 (3 ^ g .n) ≡ allAdditions g
+  pub cost-all : costIn T 0 (3 ^ g .n) ≡ allAdditions g
   unfolding trailBehind costOf
-  cost-all d = whole-two 3 two T (g .n) (λ p h. ap (λ (x : ℕ). costOf 3 x p) d)
+  cost-all = cost-in (g .degree) (g .n) T (λ p. refl)
 
   -- the value at a place is the value at its point
   value-point : (e p : ℕ) → valuesOf g e (pointDigit 3 p) ≡ valuesOf g e (digit 3 (pointOf 3 (g .n) p))
@@ -53,12 +60,12 @@ module _ (g : Given) where
     λ z. record {
       point = rw (sym (z .3)) (point-lt 3 two (g .n) (z .0));
       zero = λ e h. ap (λ (y : ℕ). valuesOf g e (digit 3 y) % 3) (sym (z .3)) ∙ ap (λ (y : ℕ). y % 3) (sym (value-point e (z .0)))
-          ∙ zeros-all (g .m) (λ e. valuesOf g e (pointDigit 3 (z .0))) (z .2) e h;
+          ∙ zeros-all 3 (g .m) (λ e. valuesOf g e (pointDigit 3 (z .0))) (z .2) e h;
     },
     λ c. let o = point-onto 3 two (g .n) x (c .point) in (
       o .0,
       o .1,
-      all-zeros (g .m) (λ e. valuesOf g e (pointDigit 3 (o .0)))
+      all-zeros 3 (g .m) (λ e. valuesOf g e (pointDigit 3 (o .0)))
           (λ e h. ap (λ (y : ℕ). y % 3) (value-point e (o .0)) ∙ ap (λ (y : ℕ). valuesOf g e (digit 3 y) % 3) (o .2) ∙ c .zero e h),
       o .2,
     ),
@@ -91,8 +98,8 @@ module _ (g : Given) where
         (λ e. place-is ∙ sym (zero-add _) ∙ i .0 e ∙ end-is g, λ e. i .1 (zero-add _ ∙ sym place-is ∙ e ∙ sym (end-is g)))
 
     -- demand 3
-    pub whole-walk : g .degree ≡ 2 → SaysEnded (given .told) → WholeWalk g qs
-    whole-walk two e =
+    pub whole-walk : SaysEnded (given .told) → WholeWalk g qs
+    whole-walk e =
         let d : WholeRun T (openedAt g) (callOf g) qs = whole-run T (openedAt g) (callOf g) (serves g ok) qs some-places e in
         record {
           each = d .each;
@@ -101,7 +108,7 @@ module _ (g : Given) where
           once = run-once T (openedAt g) (callOf g) qs d distinct;
           order = d .order ∙ in-order;
           points = d .points ∙ end-is g;
-          additions = d .additions ∙ ap (costIn T 0) (end-is g) ∙ cost-all two;
+          additions = d .additions ∙ ap (costIn T 0) (end-is g) ∙ cost-all;
         }
 
     -- a run with as many requests that ask for something as there are points has ended

@@ -2,10 +2,12 @@
 use mathlib.Core.Path.{_≡_}
 use mathlib.Core.Logic.{_↔_}
 use mathlib.Core.List.{List, map}
-use Prim.Native.Nat.{ℕ, _-_, _*_, _%_, _^_, _<_}
+use Prim.Native.Nat.{ℕ, _+_, _-_, _*_, _/_, _%_, _^_, _<_}
 use Rattle.gray.specs.Numbers.{digit, pointOf}
 use Rattle.walks.specs.Runs.{Request, Sums, EachReply}
 use Rattle.walks.specs.Zeros.{placesIn, Holds, Once}
+use Rattle.given.specs.declared.Degree.{Degree}
+use Rattle.given.specs.declared.Degree.the-variants.{Two, Three}
 use Rattle.given.specs.Given.{Given, valuesOf}
 use Rattle.opening.specs.declared.Record.{Record}
 use Rattle.opening.specs.Opened.{openedAt}
@@ -17,9 +19,14 @@ pub record CommonZero (g : Given) (x : ℕ) : Type 0 where
   pub point : x < 3 ^ g .n
   pub zero : (e : ℕ) → e < g .m → valuesOf g e (digit 3 x) % 3 ≡ 0
 
--- the additions of a whole walk of degree 2: two at each place but the first, less one at each of the n places with one position
+-- the additions of a whole walk of n unknowns. Degree 2: two at each place but the first, less one at each of the n places with one
+-- position. Degree 3: three at each place but the first, less two at each of those n, less one at each of the n(n + 1)/2 places with two
+abbrev pub additionsIn : Degree → ℕ → ℕ
+additionsIn Two n = 2 * (3 ^ n - 1) - n
+additionsIn Three n = 3 * (3 ^ n - 1) - 2 * n - n * (n + 1) / 2
+
 abbrev pub allAdditions : Given → ℕ
-allAdditions g = 2 * (3 ^ g .n - 1) - g .n
+allAdditions g = additionsIn (g .degree) (g .n)
 
 -- the session from the record opened at place 0
 abbrev pub fromStart : Given → List Request → Sums Record

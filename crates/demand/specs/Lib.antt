@@ -1,3 +1,4 @@
 pub mod Session
 pub mod Demand
 pub mod Rows
+pub mod Cases

@@ -1,2 +1,3 @@
 pub mod TableLaw
 pub mod ValuesLaw
+pub mod SlotLaw

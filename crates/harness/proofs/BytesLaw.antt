@@ -14,10 +14,10 @@ use Rattle.walks.specs.declared.Stop.{Stop}
 use Rattle.walks.specs.declared.Stop.the-variants.{Ended, Full, Spent}
 use Rattle.walks.specs.Calls.{Trail, listed, zerosIn, stopNumber, stopPlace}
 use Rattle.codec.specs.Codec.{wordsOf, wordsIn, bytesFrom, pasted, AllBelow}
-use Rattle.codec.proofs.CodecLaw.{words-bytes, length-from, from-append, below-tail, below-drop}
+use Rattle.codec.proofs.CodecLaw.{words-bytes, length-from, from-append, below-drop}
 use Rattle.search.specs.declared.Answer.the-variants.{Ran}
 use Rattle.search.specs.Search.{answerValues}
-use Rattle.wire.proofs.SmallLaw.{below-nil, below-cons}
+use Rattle.wire.proofs.SmallLaw.{below-nil, below-cons, below-append}
 use Rattle.harness.specs.Harness.{stopSaid, reportSaid, areWords}
 
 -- ---- lists of words
@@ -31,11 +31,6 @@ pub words-back : (l : List ℕ) → AllBelow (2 ^ 64) l → wordsIn (bytesFrom l
 words-back l a =
     let e : length (bytesFrom l) / 8 ≡ length l = omega (arith, length-from l) in
     ap (λ (k : ℕ). wordsOf k (bytesFrom l)) e ∙ words-bytes l a
-
-below-append : (k : ℕ) (u v : List ℕ) → AllBelow k u → AllBelow k v → AllBelow k (u ++ v)
-below-append k [] v a b = b
-below-append k (x ∷ u) v a b =
-    below-cons k x (u ++ v) (a .each 0 (omega arith)) (below-append k u v (below-tail k x u a) b)
 
 drop-from : (j : ℕ) (l : List ℕ) → j ≤ length l → drop (8 * j) (bytesFrom l) ≡ bytesFrom (drop j l)
 drop-from j l h =

@@ -4,7 +4,7 @@ use mathlib.Core.Bool.{Bool, true, false}
 use mathlib.Core.Logic.{_⊎_, inl, inr}
 use mathlib.Core.Option.{Option, none, some}
 use mathlib.Core.List.{List, [], _∷_, map}
-use Prim.Native.Nat.{ℕ, _+_, _*_, _%_, _^_, _≤_, _<_}
+use Prim.Native.Nat.{ℕ, _+_, _*_, _/_, _%_, _^_, _≤_, _<_}
 use native.Mathlib.Nat.{one-le-pow, add-zero}
 use native.Mathlib.Omega.{arith}
 use lib.Dec.{eqb}
@@ -25,7 +25,8 @@ use Rattle.walks.proofs.CallLaw.{points-end, cost-most, zeros-room, zeros-lengt
 use Rattle.walks.proofs.RunsLaw.{whole-run, run-once}
 use Rattle.codec.specs.Codec.{wordsIn, bytesFrom, pasted}
 use Rattle.codec.proofs.CodecLaw.{length-from}
-use Rattle.given.specs.Given.{Given}
+use Rattle.given.specs.declared.Degree.{Degree}
+use Rattle.given.specs.Given.{Given, tableWith}
 use Rattle.given.proofs.TableLaw.{within, power-small}
 use Rattle.opening.specs.declared.Record.{Record}
 use Rattle.opening.specs.Opened.{openedAt}
@@ -33,14 +34,15 @@ use Rattle.search.specs.declared.Answer.the-variants.{Ran}
 use Rattle.search.specs.declared.Outcome.{Outcome}
 use Rattle.search.specs.Search.{trailBehind, searchVerdict, ranOf, outcomeFrom, answerValues}
 use Rattle.search.proofs.VerdictLaw.{asked, verdict-opened}
-use Rattle.search.proofs.TrailLaw.{end-is, entry-lt, cost-le, place-opened}
+use Rattle.search.proofs.TrailLaw.{end-is, entry-lt, cost-three, place-opened}
 use Rattle.demand.proofs.DemandLaw.{trans-iff, distinct, cost-all, zero-iff}
 use Rattle.lists.specs.Listed.{foundIn, listIn}
 use Rattle.wire.specs.Wire.{recordIn, recordWords}
 use Rattle.wire.proofs.SmallLaw.{record-bytes, record-back}
-use Rattle.search_calls.specs.Call.{inWords, callVerdict, answerBytesAfter, doneOf}
+use Rattle.search_calls.specs.Call.{readingOf, inWords, callVerdict, answerBytesAfter, doneOf}
 use Rattle.search_calls.proofs.VerdictLaw.{right, shapes-done}
-use Rattle.harness.specs.Harness.{reportSaid, toldBy, replyBy, areWords, lentIf, bytesCall, recordAt, Lent, answerAfter, OneAnswer, EachAnswer, nightOf, WholeNight}
+use Rattle.search_calls.proofs.ReadingLaw.{reading-opened}
+use Rattle.harness.specs.Harness.{reportSaid, toldBy, replyOn, called, replyBy, areWords, lentIf, bytesCall, recordAt, Lent, answerAfter, OneAnswer, EachAnswer, nightOf, WholeNight}
 use Rattle.harness.proofs.BytesLaw.{are-below, words-back, front-back, zeros-below, values-back, answer-back}
 
 above : (x : ℕ) → (x ≡ 0 → ⊥) → 0 < x
@@ -59,20 +61,23 @@ module _ (g : Given) (answers : List ℕ → Request → List ℕ) (lent : Lent 
   limits : Within (g .n) (g .m)
   limits = within t (lent .checked)
 
-  cost-two : (p : ℕ) → T .cost p ≤ 2
-  cost-two p = subst (λ (x : ℕ). T .cost p ≤ x) (lent .degree) (cost-le t p)
-
   -- places are words
-  place-small : (p : ℕ) → p ≤ 3 ^ g .n → 2 * p < 2 ^ 64
+  place-small : (p : ℕ) → p ≤ 3 ^ g .n → 3 * p < 2 ^ 64
   place-small p h = omega (arith, h, power-small t (lent .checked))
 
-  at-long : (p : ℕ) → length (at p) ≡ 360
+  at-long : (p : ℕ) → length (at p) ≡ 3720
   unfolding recordAt
   at-long p = record-bytes t p
 
   at-back : (p : ℕ) → p ≤ 3 ^ g .n → recordIn (at p) ≡ openedAt t p
   unfolding recordAt
   at-back p h = record-back t (limits .wide) (omega (arith, limits .most)) p (omega (arith, place-small p h))
+
+  -- the call reads the table in its degree
+  reads : (p : ℕ) → p ≤ 3 ^ g .n → called g (at p) ≡ g
+  reads p h =
+      let w = length (g .words) / 8 in
+      ap (λ (d : Degree). tableWith d (g .n) (g .m) (g .words)) (ap (readingOf (g .n) w) (at-back p h) ∙ reading-opened t w p (lent .degree))
 
   -- ---- one call, from the record at place p, on a list of words
   module _ (p : ℕ) (h : p ≤ 3 ^ g .n) (q : Request) (words : areWords (q .list) ≡ true) where
@@ -109,7 +114,9 @@ module _ (g : Given) (answers : List ℕ → Request → List ℕ) (lent : Lent 
 
     reply-by : (v : Verdict) → asked b l ≡ v
         → replyBy g answer (at p) q ≡ replyFrom v (doneOf g (at p) b (bytesFrom l)) (listIn t (recordIn (at p)) b (bytesFrom l))
-    reply-by v e = ap (λ (x : Verdict). replyFrom x (doneOf g (at p) b (bytesFrom l)) (listIn t (recordIn (at p)) b (bytesFrom l))) (judged ∙ e)
+    reply-by v e =
+        ap (λ (x : Given). replyOn x answer (at p) q) (reads p h)
+        ∙ ap (λ (x : Verdict). replyFrom x (doneOf g (at p) b (bytesFrom l)) (listIn t (recordIn (at p)) b (bytesFrom l))) (judged ∙ e)
 
     -- a call that nothing refuses
     abbrev k : ℕ
@@ -141,7 +148,7 @@ module _ (g : Given) (answers : List ℕ → Request → List ℕ) (lent : Lent 
     unfolding reportOf
     values-are =
         let s = place-small (p + k) far in
-        values-back (3 ^ g .n) w (omega (arith, place-is, s)) (omega (arith, s)) (omega (arith, s, cost-most T 2 cost-two p k)) (omega (arith, s, zeros-length T p k))
+        values-back (3 ^ g .n) w (omega (arith, place-is, s)) (omega (arith, s)) (omega (arith, s, cost-most T 3 (cost-three t) p k)) (omega (arith, s, zeros-length T p k))
 
     told-is : toldBy 0 (bytesFrom (answerValues (3 ^ g .n) (ranOf t p b (length l) .answer))) ≡ some w
     told-is = ap (λ (x : List ℕ). some (reportSaid x)) values-are ∙ ap some (answer-back (3 ^ g .n) w)
@@ -226,11 +233,16 @@ module _ (g : Given) (answers : List ℕ → Request → List ℕ) (lent : Lent 
 
       By : Bool → Type 0
       By z =
-          OneAnswer p (answers (at p) q) (pick z (answerBytesAfter g (at p) (q .budget) (bytesFrom (q .list)) (answers (at p) q)) (answers (at p) q))
+          OneAnswer p (answers (at p) q) (pick z (answerBytesAfter (called g (at p)) (at p) (q .budget) (bytesFrom (q .list)) (answers (at p) q)) (answers (at p) q))
           (lentIf z (replyBy g (answers (at p) q) (at p) q) (awayWith (at p) q) .told)
 
+      On : Given → Type 0
+      On x =
+          OneAnswer p (answers (at p) q) (answerBytesAfter x (at p) (q .budget) (bytesFrom (q .list)) (answers (at p) q))
+          (replyOn x (answers (at p) q) (at p) q .told)
+
       go : (z : Bool) → areWords (q .list) ≡ z → By (areWords (q .list))
-      go true e = subst By (sym e) (answer-is p near q e)
+      go true e = subst By (sym e) (subst On (sym (reads p near)) (answer-is p near q e))
       go false e = subst By (sym e) refl
 
   after-place : (p : ℕ) (s : List ℕ) (q : Request) (r : Reply (List ℕ)) → p ≤ T .end → s ≡ at p → (o : Option Report) → OneReply T at p s q r o
@@ -267,5 +279,5 @@ module _ (g : Given) (answers : List ℕ → Request → List ℕ) (lent : Lent 
         once = run-once T at (bytesCall g answers) qs d (distinct t);
         order = d .order ∙ in-order;
         points = d .points ∙ end-is t;
-        additions = d .additions ∙ ap (costIn T 0) (end-is t) ∙ cost-all t (lent .degree);
+        additions = d .additions ∙ ap (costIn T 0) (end-is t) ∙ cost-all t;
       }

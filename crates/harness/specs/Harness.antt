@@ -5,13 +5,12 @@ use mathlib.Core.Logic.{_↔_}
 use mathlib.Core.Bool.{Bool, true, false, _&&_}
 use mathlib.Core.Option.{Option, none, some}
 use mathlib.Core.List.{List, [], _∷_, map}
-use Prim.Native.Nat.{ℕ, zero, suc, _+_, _*_, _^_}
+use Prim.Native.Nat.{ℕ, zero, suc, _+_, _/_, _^_}
 use lib.Dec.{ltb}
 use lib.ListN.{length, getD}
 use Rattle.refusals.specs.Choice.{pick}
 use Rattle.refusals.specs.Refusal.{codeOf}
 use Rattle.gray.specs.Numbers.{pointOf}
-use Rattle.tables.specs.Monomials.{countOf}
 use Rattle.walks.specs.declared.Report.{Report}
 use Rattle.walks.specs.declared.Stop.{Stop}
 use Rattle.walks.specs.declared.Stop.the-variants.{Ended, Full, Spent}
@@ -19,12 +18,12 @@ use Rattle.walks.specs.Calls.{stopNumber}
 use Rattle.walks.specs.Runs.{Request, Reply, Engine, pointsTold, awayWith, Sums, sumsOf, EachReply}
 use Rattle.walks.specs.Zeros.{placesIn, Holds, Once}
 use Rattle.codec.specs.Codec.{wordsIn, bytesFrom}
-use Rattle.given.specs.Given.{Given, Checked}
+use Rattle.given.specs.Given.{Given, Checked, degreeTold}
 use Rattle.opening.specs.Opened.{openedAt}
 use Rattle.search.specs.Search.{trailBehind}
 use Rattle.demand.specs.Demand.{CommonZero, allAdditions}
 use Rattle.wire.specs.Wire.{recordWords}
-use Rattle.search_calls.specs.Call.{inWords, callVerdict, recordBytesAfter, listBytesAfter, answerBytesAfter}
+use Rattle.search_calls.specs.Call.{bytesTold, tableLent, inWords, callVerdict, recordBytesAfter, listBytesAfter, answerBytesAfter}
 
 -- the report that the five words of an answer say
 abbrev pub stopSaid : ℕ → ℕ → Stop
@@ -41,13 +40,20 @@ toldBy zero answer = some (reportSaid (wordsIn answer))
 toldBy (suc c) answer = none
 
 -- one call on bytes, as those of the table g are: the list is lent as the bytes of its words, and read as words again
-abbrev pub replyBy : Given → List ℕ → List ℕ → Request → Reply (List ℕ)
-replyBy g answer rec q =
+abbrev pub replyOn : Given → List ℕ → List ℕ → Request → Reply (List ℕ)
+replyOn g answer rec q =
     record {
       told = toldBy (codeOf (callVerdict g rec (q .budget) (bytesFrom (q .list)) answer)) (answerBytesAfter g rec (q .budget) (bytesFrom (q .list)) answer);
       state = recordBytesAfter g rec (q .budget) (bytesFrom (q .list)) answer;
       list = wordsIn (listBytesAfter g rec (q .budget) (bytesFrom (q .list)) answer);
     }
+
+-- the table as the call reads it, which is not told the degree
+abbrev pub called : Given → List ℕ → Given
+called g rec = tableLent (g .n) (g .m) (g .words) rec
+
+abbrev pub replyBy : Given → List ℕ → List ℕ → Request → Reply (List ℕ)
+replyBy g answer rec q = replyOn (called g rec) answer rec q
 
 -- whether every number of a list is a word; a list that is none can't be lent, and nothing is called
 unfoldable pub areWords : List ℕ → Bool
@@ -66,17 +72,17 @@ bytesCall g answers rec q = lentIf (areWords (q .list)) (replyBy g (answers rec 
 unfoldable pub recordAt : Given → ℕ → List ℕ
 recordAt g p = bytesFrom (recordWords (openedAt (inWords g) p))
 
--- a checked table of degree 2 in its exact number of bytes, and 40 bytes for each answer
+-- a checked table of the degree that its number of bytes tells, which is exact, and 40 bytes for each answer
 pub record Lent (g : Given) (answers : List ℕ → Request → List ℕ) : Type 0 where
-  pub degree : g .degree ≡ 2
-  pub bytes : length (g .words) ≡ 16 * countOf (g .n)
+  pub degree : g .degree ≡ degreeTold (g .n) (length (g .words) / 8)
+  pub bytes : length (g .words) ≡ bytesTold (g .n) (length (g .words))
   pub checked : Checked (inWords g)
   pub answer : (rec : List ℕ) (q : Request) → length (answers rec q) ≡ 40
 
 -- the answer's bytes after a call
 abbrev pub answerAfter : Given → (List ℕ → Request → List ℕ) → List ℕ → Request → List ℕ
 answerAfter g answers rec q =
-    pick (areWords (q .list)) (answerBytesAfter g rec (q .budget) (bytesFrom (q .list)) (answers rec q)) (answers rec q)
+    pick (areWords (q .list)) (answerBytesAfter (called g rec) rec (q .budget) (bytesFrom (q .list)) (answers rec q)) (answers rec q)
 
 -- what they are: as they were where it told nothing; where it told w, from place p, the words stop, place, points, additions and found,
 -- and the place is the one that it came to, also when it ended

@@ -11,4 +11,8 @@ pub mod ConstantLaw
 pub mod DegreeLaw
 pub mod ValuesLaw
 pub mod ExactLaw
+pub mod CountLaw
+pub mod VisitLaw
+pub mod ThirdsLaw
+pub mod NinthsLaw
 pub mod StandLaw

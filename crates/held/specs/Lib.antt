@@ -1,2 +1,4 @@
 pub mod Held
 pub mod Stands
+pub mod Visits
+pub mod Thirds

@@ -4,7 +4,6 @@ use mathlib.Core.Path.{_≡_, refl, sym, ap, ap₂, subst, _∙_}
 use mathlib.Core.Logic.{⊎-elim, inl, inr, _⊎_}
 use mathlib.Core.List.{List, [], _++_}
 use Prim.Native.Nat.{ℕ, _+_, _-_, _*_, _/_, _^_, _≤_, _<_, min}
-use native.Mathlib.Nat.{mul-le-mul-left}
 use native.Mathlib.Omega.{arith}
 use lib.ListN.{length, take, drop, length-append, length-drop}
 use lib.Seq.{length-take-le, take-append-le}
@@ -23,7 +22,7 @@ use Rattle.opening.specs.Opened.{openedAt}
 use Rattle.search.specs.Search.{trailBehind, fits, ranOf}
 use Rattle.search.proofs.VerdictLaw.{fits-opened}
 use Rattle.search.proofs.RanLaw as ran
-use Rattle.search.proofs.TrailLaw.{end-is, cost-le, place-opened}
+use Rattle.search.proofs.TrailLaw.{end-is, cost-three, place-opened}
 use Rattle.lists.specs.Listed.{foundIn}
 use Rattle.lists.specs.Pieces.{didOf}
 use Rattle.lists.proofs.CutLaw.{zeros-none, found-add, Cut, cut-none, cut-more, cut-over, report-over}
@@ -158,10 +157,11 @@ module _ (g : Given) (r : Record) (budget : ℕ) (l₀ : List ℕ) where
       pub found-fit : at + w .found ≤ room
       found-fit = omega (arith, found-are, h .used, found-add T p k j, next-cut .fits)
 
-      pub few : Checked g → additions + w .additions ≤ g .degree * 3 ^ 20
+      pub few : Checked g → additions + w .additions ≤ 3 * 3 ^ 20
       few ok =
           let a : k + j ≤ 3 ^ 20 = omega (arith, next-near, power-small g ok) in
-          omega (arith, h .sum, additions-are, cost-add T p k j, cost-most T (g .degree) (cost-le g) p (k + j), mul-le-mul-left (g .degree) a)
+          let c = cost-most T 3 (cost-three g) p (k + j) in
+          omega (arith, h .sum, additions-are, cost-add T p k j, c, a)
 
       next-list : l′ ≡ pasted l₀ 0 (bytesFrom (zerosIn T p (k + j)))
       next-list =

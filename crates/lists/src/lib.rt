@@ -1,6 +1,7 @@
 // A search whose list is bytes, as many as the caller likes: zeros are found a piece of words at a time and encoded into the list.
 // Table, record, budget and list are judged once; each piece goes on from the record of the one before, and together they are one call.
 // Contracts cite specs/Listed (what the whole gives) and specs/Pieces (what a piece does).
+use given::Degree;
 use opening::Record;
 use refusals::PIECE_ENTRIES;
 use refusals::Verdict;
@@ -13,7 +14,7 @@ ghost use mathlib.Core.Bool.{true};
 ghost use Prim.Native.Nat.{_-_, _*_, _/_, _<_, _≤_, min};
 ghost use lib.ListN.{length};
 ghost use Rattle.codec.specs.Codec.{bytesFrom, pasted};
-ghost use Rattle.given.specs.Given.{quadratic, Checked};
+ghost use Rattle.given.specs.Given.{tableWith, Checked};
 ghost use Rattle.search.specs.Search.{fits, ranOf};
 ghost use Rattle.lists.specs.Listed.{foundIn, outcomeIn, listIn};
 ghost use Rattle.lists.specs.Pieces.{didOf, GoesOn};
@@ -57,6 +58,7 @@ fn goes_on(place: u64, end: u64, left: u64, room: usize) -> bool
 
 // One piece: its points go by way of the words into the list, from word number `at` on.
 fn part(
+    degree: Degree,
     n: u64,
     m: u64,
     table: &[u64],
@@ -66,13 +68,13 @@ fn part(
     list: &mut [u8],
     at: usize,
 ) -> Outcome
-    requires { ⌜ Checked (quadratic n m (now table)) × (fits (quadratic n m (now table)) r ≡ true) × (at ≤ length (now list) / 8) ⌝ }
-    ensures { λ o. ⌜ (o ≡ ranOf (quadratic n m (now (table .entry))) (r .place .0) left (min (length (now (words .entry))) (length (now (list .entry)) / 8 - at)))
-        × (now (list .exit) ≡ pasted (now (list .entry)) (8 * at) (bytesFrom (foundIn (quadratic n m (now (table .entry))) (r .place .0) left (min (length (now (words .entry))) (length (now (list .entry)) / 8 - at))))) ⌝ }
+    requires { ⌜ Checked (tableWith degree n m (now table)) × (fits (tableWith degree n m (now table)) r ≡ true) × (at ≤ length (now list) / 8) ⌝ }
+    ensures { λ o. ⌜ (o ≡ ranOf (tableWith degree n m (now (table .entry))) (r .place .0) left (min (length (now (words .entry))) (length (now (list .entry)) / 8 - at)))
+        × (now (list .exit) ≡ pasted (now (list .entry)) (8 * at) (bytesFrom (foundIn (tableWith degree n m (now (table .entry))) (r .place .0) left (min (length (now (words .entry))) (length (now (list .entry)) / 8 - at))))) ⌝ }
 {
     let room = list.len() / 8 - at;
     let c = lesser(words.len(), room);
-    let o = search::ran(n, m, table, r, left, &mut words[..c]);
+    let o = search::ran(degree, n, m, table, r, left, &mut words[..c]);
     let answer = o.answer;
     let this = did(answer);
     let k = this.found as usize;
@@ -82,6 +84,7 @@ fn part(
 
 // A call that nothing refuses, piece after piece.
 fn filled(
+    degree: Degree,
     n: u64,
     m: u64,
     table: &[u64],
@@ -90,9 +93,9 @@ fn filled(
     words: &mut [u64],
     list: &mut [u8],
 ) -> Outcome
-    requires { ⌜ Checked (quadratic n m (now table)) × (fits (quadratic n m (now table)) r ≡ true) × (0 < length (now words)) ⌝ }
-    ensures { λ o. ⌜ (o ≡ ranOf (quadratic n m (now (table .entry))) (r .place .0) budget (length (now (list .entry)) / 8))
-        × (now (list .exit) ≡ pasted (now (list .entry)) 0 (bytesFrom (foundIn (quadratic n m (now (table .entry))) (r .place .0) budget (length (now (list .entry)) / 8)))) ⌝ }
+    requires { ⌜ Checked (tableWith degree n m (now table)) × (fits (tableWith degree n m (now table)) r ≡ true) × (0 < length (now words)) ⌝ }
+    ensures { λ o. ⌜ (o ≡ ranOf (tableWith degree n m (now (table .entry))) (r .place .0) budget (length (now (list .entry)) / 8))
+        × (now (list .exit) ≡ pasted (now (list .entry)) 0 (bytesFrom (foundIn (tableWith degree n m (now (table .entry))) (r .place .0) budget (length (now (list .entry)) / 8)))) ⌝ }
 {
     let end = positions::power(n);
     let len = list.len() / 8;
@@ -101,7 +104,7 @@ fn filled(
     let mut at: usize = 0;
     let mut additions: u64 = 0;
     loop {
-        let o = part(n, m, table, s, left, words, list, at);
+        let o = part(degree, n, m, table, s, left, words, list, at);
         let answer = o.answer;
         let this = did(answer);
         s = o.record;
@@ -111,10 +114,11 @@ fn filled(
         let place = s.place.0;
         if !goes_on(place, end, left, len - at) {
             let stop = search::stop_of(place, end, at, len);
+            let points = budget - left;
             return Outcome {
                 answer: Answer::Ran(Report {
                     stop,
-                    points: budget - left,
+                    points,
                     additions,
                     found: at as u64,
                 }),
@@ -126,6 +130,7 @@ fn filled(
 
 // One call of the search with the list as bytes: as many entries as there are whole words.
 pub fn search_bytes(
+    degree: Degree,
     n: u64,
     m: u64,
     table: &[u64],
@@ -133,10 +138,10 @@ pub fn search_bytes(
     budget: u64,
     list: &mut [u8],
 ) -> Outcome
-    ensures { λ o. ⌜ (o ≡ outcomeIn (quadratic n m (now (table .entry))) r budget (now (list .entry)))
-        × (now (list .exit) ≡ listIn (quadratic n m (now (table .entry))) r budget (now (list .entry))) ⌝ }
+    ensures { λ o. ⌜ (o ≡ outcomeIn (tableWith degree n m (now (table .entry))) r budget (now (list .entry)))
+        × (now (list .exit) ≡ listIn (tableWith degree n m (now (table .entry))) r budget (now (list .entry))) ⌝ }
 {
-    let verdict = search::judged(n, m, table, r, budget, list.len() / 8);
+    let verdict = search::judged(degree, n, m, table, r, budget, list.len() / 8);
     match verdict {
         Verdict::Refused(f) => Outcome {
             answer: Answer::Refused(f),
@@ -144,7 +149,7 @@ pub fn search_bytes(
         },
         Verdict::Done => {
             let mut words = [0u64; PIECE_ENTRIES];
-            filled(n, m, table, r, budget, &mut words, list)
+            filled(degree, n, m, table, r, budget, &mut words, list)
         }
     }
 }

@@ -1,15 +1,12 @@
 -- The record at a place, from the coefficients that the code works with: they are the system's modulo 3.
-use mathlib.Core.Path.{_≡_, refl, sym, ap, _∙_}
-use mathlib.Core.Bool.{Bool}
+use mathlib.Core.Path.{_≡_, sym, ap, _∙_}
 use mathlib.Core.Logic.{by-cases}
 use mathlib.Core.List.{List}
-use Prim.Native.Nat.{ℕ, zero, suc, _+_, _-_, _*_, _%_, _≤_, _<_, min, max}
+use Prim.Native.Nat.{ℕ, _+_, _-_, _*_, _%_, _<_, min, max}
 use native.Mathlib.Nat.{mod-mod}
 use native.Mathlib.Decide.{decLt}
 use native.Mathlib.Omega.{arith}
-use lib.ListN.{length, getD}
-use lib.Seq.{ext-getD}
-use borrow.Author.Tests.{lt-ltb, le-ltb}
+use lib.ListN.{getD}
 use Rattle.residues.specs.Sums.{same}
 use Rattle.residues.proofs.ModLaw.{Cong, crefl, cadd, cmul}
 use Rattle.residues.proofs.SumLaw.{sum-cong}
@@ -25,7 +22,8 @@ use Rattle.tables.proofs.AgreeLaw.{Agree}
 use Rattle.tables.proofs.RoundLaw.{coefficients-hold, coefficients-table}
 use Rattle.given.specs.Given.{Given, quadratic, behind, valuesOf}
 use Rattle.given.proofs.ValuesLaw.{values-at, value-agree}
-use Rattle.opening.specs.Opened.{valueAt, slotOr, slotAt, slotsAt}
+use Rattle.given.specs.Slots.{valueAt, slotAt, slotsAt}
+use Rattle.given.proofs.SlotLaw.{slot-used, slot-none, slots-are}
 use Rattle.opening.specs.Parts.{Slots}
 use Rattle.opening.proofs.PlaceLaw.{two}
 use Rattle.trits.proofs.HoldLaw.{holds-is}
@@ -41,39 +39,6 @@ module _ (q n : ℕ) (f g : Poly) (a : Agree q n f g) (x : ℕ → ℕ) where
   diff-agree b h =
       cadd (cadd (a .lin b h) (a .quad b b (omega arith) h))
       (sum-cong q n (λ i. slope f b i * x i) (λ i. slope g b i * x i) (λ i l. cmul (slope-agree b i h l) (crefl (x i))))
-
--- ---- the slots of any table
-module _ (g : Given) where
-  pub slot-used : (q b : ℕ) → b < g .n → slotAt g q b ≡ ofTrits (g .m) (λ e. changeBy 3 (valuesOf g e) b (pointDigit 3 (latest 3 b q - 1)))
-  unfolding slotAt
-  slot-used q b h = ap (λ (z : Bool). slotOr z (ofTrits (g .m) (λ e. changeBy 3 (valuesOf g e) b (pointDigit 3 (latest 3 b q - 1))))) (lt-ltb b (g .n) h)
-
-  pub slot-none : (q b : ℕ) → g .n ≤ b → slotAt g q b ≡ none
-  unfolding slotAt
-  slot-none q b h = ap (λ (z : Bool). slotOr z (ofTrits (g .m) (λ e. changeBy 3 (valuesOf g e) b (pointDigit 3 (latest 3 b q - 1))))) (le-ltb b (g .n) h)
-
-  pub slots-length : (q b k : ℕ) → length (slotsAt g q b k) ≡ k
-  unfolding slotsAt
-  slots-length q b zero = refl
-  slots-length q b (suc k) = ap suc (slots-length q (suc b) k)
-
-  slots-from : (q b k i : ℕ) → i < k → getD (slotsAt g q b k) i none ≡ slotAt g q (b + i)
-  unfolding slotsAt
-  slots-from q b zero i h = absurd (omega arith)
-  slots-from q b (suc k) zero h = ap (slotAt g q) (plain b)
-    where
-      plain : (b : ℕ) → b ≡ b + 0
-      plain b = omega arith
-  slots-from q b (suc k) (suc i) h = slots-from q (suc b) k i (omega arith) ∙ ap (slotAt g q) (shift b i)
-    where
-      shift : (b i : ℕ) → suc b + i ≡ b + suc i
-      shift b i = omega arith
-
-  pub slots-at : (q k i : ℕ) → i < k → getD (slotsAt g q 0 k) i none ≡ slotAt g q i
-  slots-at q k i h = slots-from q 0 k i h ∙ ap (slotAt g q) (plain i)
-    where
-      plain : (i : ℕ) → 0 + i ≡ i
-      plain i = omega arith
 
 -- ---- a table of degree 2, from its coefficients
 module _ (n m : ℕ) (t : List ℕ) where
@@ -107,10 +72,10 @@ module _ (n m : ℕ) (t : List ℕ) where
       ∙ sym (slot-used g q b h)
 
   -- all slots
-  pub slots-are : (q : ℕ) (s : List Vector) → Slots n C q s → s ≡ slotsAt g q 0 20
-  slots-are q s w =
-      ext-getD none s (slotsAt g q 0 20) (w .long ∙ sym (slots-length g q 0 20))
-      (λ i l. let j : i < 20 = omega (arith, w .long) in
+  pub slots-of : (q : ℕ) (s : List Vector) → Slots n C q s → s ≡ slotsAt g q 0 20
+  slots-of q s w =
+      slots-are g q s (w .long)
+      (λ i l.
       by-cases (decLt i n)
-      (λ h. slot-is q i (getD s i none) h (w .used m (coefficients-table n m t) i h) ∙ sym (slots-at g q 20 i j))
-      (λ h. w .unused i (omega arith) ∙ sym (slot-none g q i (omega arith)) ∙ sym (slots-at g q 20 i j)))
+      (λ h. slot-is q i (getD s i none) h (w .used m (coefficients-table n m t) i h))
+      (λ h. w .unused i (omega arith) ∙ sym (slot-none g q i (omega arith))))

@@ -1,26 +1,30 @@
 // The walk record, and opening at any place.
 // Contracts cite specs/Opened: the record at a place.
+use given::Degree;
 use gray::Place;
 use refusals::MOST_UNKNOWNS;
 use refusals::Refusal;
+use refusals::SECOND_WORDS;
 use refusals::Verdict;
 use trits::Vector;
 ghost use mathlib.Core.Path.{_≡_};
 ghost use Rattle.opening.specs.Opened.{openVerdict, openOf, refusedOpen, noRecord};
 ghost use Rattle.refusals.specs.Refusal.{codeOf};
-ghost use Rattle.given.specs.Given.{quadratic, Checked};
+ghost use Rattle.given.specs.Given.{tableWith, Checked};
 
 mod parts;
 
 pub use parts::record_at;
 
-// The walk of one table, between two calls. Slots from n to 19 are zero.
+// The walk of one table, between two calls. Slots from n to 19 are zero, and so are the second slots that the system does not have:
+// second slot (b, c), b not above c, is two words, high then low, at the number of the pair among those of 20 unknowns.
 pub struct Record {
     pub n: u64,
     pub m: u64,
     pub place: Place,
     pub value: Vector,
     pub slots: [Vector; MOST_UNKNOWNS],
+    pub seconds: [u64; SECOND_WORDS],
 }
 
 // What opening gives: with a refusal the record is the one of zeros.
@@ -30,26 +34,26 @@ pub struct Opened {
 }
 
 // The record of a table at any place 0 to 3^n.
-pub fn open(n: u64, m: u64, table: &[u64], place: Place) -> Opened
-    ensures { λ r. ⌜ r ≡ openOf (quadratic n m (now (table .entry))) (place .0) ⌝ }
-    ensures number { λ r. ⌜ codeOf (r .verdict) ≡ codeOf (openVerdict (quadratic n m (now (table .entry))) (place .0)) ⌝ }
+pub fn open(degree: Degree, n: u64, m: u64, table: &[u64], place: Place) -> Opened
+    ensures { λ r. ⌜ r ≡ openOf (tableWith degree n m (now (table .entry))) (place .0) ⌝ }
+    ensures number { λ r. ⌜ codeOf (r .verdict) ≡ codeOf (openVerdict (tableWith degree n m (now (table .entry))) (place .0)) ⌝ }
 {
-    let verdict = tables::check(n, m, table);
+    let verdict = given::check(degree, n, m, table);
     match verdict {
         Verdict::Refused(f) => refused(f),
-        Verdict::Done => open_checked(n, m, table, place.0),
+        Verdict::Done => open_checked(degree, n, m, table, place.0),
     }
 }
 
 // The table was checked: the place is left to judge.
-fn open_checked(n: u64, m: u64, table: &[u64], at: u64) -> Opened
-    requires { ⌜ Checked (quadratic n m (now table)) ⌝ }
-    ensures { λ r. ⌜ r ≡ openOf (quadratic n m (now (table .entry))) at ⌝ }
+fn open_checked(degree: Degree, n: u64, m: u64, table: &[u64], at: u64) -> Opened
+    requires { ⌜ Checked (tableWith degree n m (now table)) ⌝ }
+    ensures { λ r. ⌜ r ≡ openOf (tableWith degree n m (now (table .entry))) at ⌝ }
 {
     if at > positions::power(n) {
         return refused(Refusal::Range);
     }
-    let record = record_at(n, m, table, at);
+    let record = record_at(degree, n, m, table, at);
     Opened {
         verdict: Verdict::Done,
         record,
@@ -77,5 +81,6 @@ fn no_record() -> Record
         place: Place(0),
         value: none,
         slots: [none; MOST_UNKNOWNS],
+        seconds: [0; SECOND_WORDS],
     }
 }

@@ -1,9 +1,11 @@
 // The record of a table at a place, worked out from the coefficients: no walking, the same work at every place.
 
 use crate::Record;
+use given::Degree;
 use gray::Place;
 use refusals::MOST_UNKNOWNS;
 use refusals::MOST_WORDS;
+use refusals::SECOND_WORDS;
 use trits::Vector;
 ghost use mathlib.Core.Path.{_≡_};
 ghost use Prim.Native.Nat.{ℕ, _+_, _-_, _*_, _%_, _^_, _<_, _≤_};
@@ -14,7 +16,7 @@ ghost use Rattle.polynomials.specs.Poly.{slope, diff};
 ghost use Rattle.tables.specs.Words.{polyAt, Table};
 ghost use Rattle.tables.specs.Monomials.{countOf};
 ghost use Rattle.refusals.specs.Limits.{mostUnknowns};
-ghost use Rattle.given.specs.Given.{quadratic, Checked};
+ghost use Rattle.given.specs.Given.{tableWith, quadratic, cubic, Checked};
 ghost use Rattle.opening.specs.Opened.{openedAt};
 ghost use Rattle.opening.specs.Parts.{Slots};
 
@@ -112,7 +114,7 @@ fn latest_place(p: u64) -> u64
     if p == 0 { 0 } else { p - 1 }
 }
 
-// The record of a checked table at a place; c is room for its coefficients.
+// The record of a checked table of degree 2 at a place; c is room for its coefficients.
 fn fill(n: u64, m: u64, table: &[u64], place: u64, c: &mut [u64]) -> Record
     requires { ⌜ Checked (quadratic n m (now table)) × (place ≤ 3 ^ n) × (length (now c) ≡ 2 * countOf n) ⌝ }
     ensures { λ r. ⌜ r ≡ openedAt (quadratic n m (now (table .entry))) place ⌝ }
@@ -129,15 +131,47 @@ fn fill(n: u64, m: u64, table: &[u64], place: u64, c: &mut [u64]) -> Record
         place: Place(place),
         value,
         slots,
+        seconds: [0; SECOND_WORDS],
     }
 }
 
-// The record of a checked table at a place.
-pub fn record_at(n: u64, m: u64, table: &[u64], place: u64) -> Record
+// The record of a checked table of degree 2 at a place.
+fn record_two(n: u64, m: u64, table: &[u64], place: u64) -> Record
     requires { ⌜ Checked (quadratic n m (now table)) × (place ≤ 3 ^ n) ⌝ }
     ensures { λ r. ⌜ r ≡ openedAt (quadratic n m (now (table .entry))) place ⌝ }
 {
     let mut c = [0u64; MOST_WORDS];
     let len = table.len();
     fill(n, m, table, place, &mut c[..len])
+}
+
+// The record of a checked table of degree 3 at a place.
+fn record_three(n: u64, m: u64, table: &[u64], place: u64) -> Record
+    requires { ⌜ Checked (cubic n m (now table)) × (place ≤ 3 ^ n) ⌝ }
+    ensures { λ r. ⌜ r ≡ openedAt (cubic n m (now (table .entry))) place ⌝ }
+{
+    let q = latest_place(place);
+    let h = cubic_opening::stood_at(table, n as usize, q);
+    let value = h.value;
+    let slots = h.slots;
+    let seconds = h.seconds;
+    Record {
+        n,
+        m,
+        place: Place(place),
+        value,
+        slots,
+        seconds,
+    }
+}
+
+// The record of a checked table at a place.
+pub fn record_at(degree: Degree, n: u64, m: u64, table: &[u64], place: u64) -> Record
+    requires { ⌜ Checked (tableWith degree n m (now table)) × (place ≤ 3 ^ n) ⌝ }
+    ensures { λ r. ⌜ r ≡ openedAt (tableWith degree n m (now (table .entry))) place ⌝ }
+{
+    match degree {
+        Degree::Two => record_two(n, m, table, place),
+        Degree::Three => record_three(n, m, table, place),
+    }
 }

@@ -106,7 +106,7 @@ left-graph input v es e =
     let T = trailBehind g in
     let none : (x : ℕ) → x - 0 ≡ x = λ x. omega arith in
     ap (λ (x : ℕ). layoutLines v (zerosIn T 0 (x - 0)) ++ totalsLine x (costIn T 0 x) (length (zerosIn T 0 x))) (end-is g)
-    ∙ ap₂ (λ (x : ℕ) (y : ℕ). layoutLines v (zerosIn T 0 x) ++ totalsLine (3 ^ v) y (length (zerosIn T 0 (3 ^ v)))) (none (3 ^ v)) (cost-all g refl)
+    ∙ ap₂ (λ (x : ℕ) (y : ℕ). layoutLines v (zerosIn T 0 x) ++ totalsLine (3 ^ v) y (length (zerosIn T 0 (3 ^ v)))) (none (3 ^ v)) (cost-all g)
     ∙ ap (λ (z : List ℕ). layoutLines v z ++ totalsLine (3 ^ v) (2 * (3 ^ v - 1) - v) (length z)) (zeros-layouts input v es e 0 (3 ^ v))
 
 module _ (input : List ℕ) (n m : ℕ) (e : answer.Graph n m ≡ answerOf (outcomeOf input 462)) where

@@ -21,7 +21,7 @@ use Rattle.graphs.specs.Drawn.{noEnds}
 use Rattle.reader.specs.Equations.{systemOf}
 use Rattle.reader.proofs.ColourLaw.{colours}
 use Rattle.walks.specs.Calls.{listed, zerosIn}
-use Rattle.walk.proofs.CallLaw.{zeros-all, all-zeros}
+use Rattle.held.proofs.StandLaw.{zeros-all, all-zeros}
 use Rattle.given.specs.Given.{Given, quadratic, behind, valuesOf}
 use Rattle.given.proofs.ValuesLaw.{value-agree}
 use Rattle.search.specs.Search.{trailBehind}
@@ -82,8 +82,8 @@ module _ (text : List ℕ) (v : ℕ) (es : List Ends) (r : outcomeOf text 462 �
   zero-differs p =
       let c = colours text 462 v es r (pointDigit 3 p) (digit-lt p) in
       same-bool _ _
-      (λ z. all-differ es p (c .0 (λ e h. sym (same-value e p h) ∙ zeros-all (length es) (λ k. valuesOf g k (pointDigit 3 p)) z e h)))
-      (λ d. all-zeros (length es) (λ k. valuesOf g k (pointDigit 3 p)) (λ e h. same-value e p h ∙ c .1 (differ-all es p d) e h))
+      (λ z. all-differ es p (c .0 (λ e h. sym (same-value e p h) ∙ zeros-all 3 (length es) (λ k. valuesOf g k (pointDigit 3 p)) z e h)))
+      (λ d. all-zeros 3 (length es) (λ k. valuesOf g k (pointDigit 3 p)) (λ e h. same-value e p h ∙ c .1 (differ-all es p d) e h))
 
   entry-is : (p : ℕ) → trailBehind g .entry p ≡ pointOf 3 v p
   unfolding trailBehind

@@ -1,9 +1,11 @@
 // The whole search of one graph file, a text at a time: what `begin` and each `next` leave in the text, joined, is the program's output.
 // Contracts cite specs/Output (the output of an input, and what is left of it between two calls) and specs/Parts.
+use given::Degree;
 use gray::Place;
 use opening::Record;
 use reader::ReadAnswer;
 use refusals::MOST_UNKNOWNS;
+use refusals::SECOND_WORDS;
 use search::Answer;
 use walks::Report;
 use walks::Stop;
@@ -38,6 +40,7 @@ fn no_record() -> Record {
         place: Place(0),
         value: none,
         slots: [none; MOST_UNKNOWNS],
+        seconds: [0; SECOND_WORDS],
     }
 }
 
@@ -65,7 +68,7 @@ fn start(n: u64, m: u64, words: &[u64], table: &mut [u64], text: &mut [u8]) -> S
     ensures { λ r. ⌜ Started n m (now (words .entry)) (now (table .exit)) (now (text .exit)) r ⌝ }
 {
     differences::differences(n, m, words, table);
-    let o = opening::open(n, m, table, Place(0));
+    let o = opening::open(Degree::Two, n, m, table, Place(0));
     let first = o.record;
     let used = listing::put_head(text, n, m);
     Session {
@@ -152,7 +155,7 @@ pub fn next(s: Session, table: &[u64], budget: u64, list: &mut [u64], text: &mut
         × Stepped (now (table .entry)) s budget (now (list .entry)) (now (list .exit)) (now (text .entry)) (now (text .exit)) r ⌝ }
 {
     let r = s.record;
-    let o = search::search(s.n, s.m, table, r, budget, list);
+    let o = search::search(Degree::Two, s.n, s.m, table, r, budget, list);
     let answer = o.answer;
     let record = o.record;
     match answer {

@@ -10,7 +10,7 @@ use Rattle.opening.specs.Opened.{openedAt, openVerdict}
 use Rattle.lent.specs.Lent.{room}
 use Rattle.wire.specs.Wire.{recordWords}
 
--- opening at a place, into 45 words
+-- opening at a place, into 465 words
 abbrev pub openCall : Given → ℕ → List ℕ → Verdict
 openCall g p rec = room (g .n) (g .m) (length rec) limits.recordWords (openVerdict g p)
 

@@ -13,12 +13,24 @@ mostEquations = 64
 abbrev pub mostWords : ℕ
 mostWords = 462
 
+-- the words of the second slots of 20 unknowns: two for each of 210 pairs
+abbrev pub secondWords : ℕ
+secondWords = 420
+
+-- the words of a table of degree 3 of 20 unknowns: two for each of 1,751 monomials
+abbrev pub mostCubicWords : ℕ
+mostCubicWords = 3502
+
+-- a record's words before its second slots
+abbrev pub firstWords : ℕ
+firstWords = 45
+
 -- a record's words, and its bytes for C
 abbrev pub recordWords : ℕ
-recordWords = 45
+recordWords = 465
 
 abbrev pub recordLength : ℕ
-recordLength = 360
+recordLength = 3720
 
 -- the entries of the list that one call fills, where a longer list is filled by several
 abbrev pub pieceEntries : ℕ

@@ -15,10 +15,20 @@ pub const MOST_EQUATIONS: u64 = 64;
 // The words of a table of 20 unknowns.
 pub const MOST_WORDS: usize = 462;
 
-// A record's words, and its bytes for C.
-pub const RECORD_WORDS: usize = 45;
+// The words of the second slots of 20 unknowns, and of a table of degree 3.
+pub const SECOND_WORDS: usize = 420;
 
-pub const RECORD_LENGTH: usize = 360;
+pub const MOST_CUBIC_WORDS: usize = 3502;
+
+// A record's words before its second slots, and their bytes.
+pub const FIRST_WORDS: usize = 45;
+
+pub const FIRST_LENGTH: usize = 360;
+
+// A record's words, and its bytes for C.
+pub const RECORD_WORDS: usize = 465;
+
+pub const RECORD_LENGTH: usize = 3720;
 
 // The entries of the list that one call fills, where a longer list is filled by several.
 pub const PIECE_ENTRIES: usize = 1024;

@@ -1,4 +1,6 @@
 pub mod RecordLaw
 pub mod VerdictLaw
-pub mod RanLaw
 pub mod TrailLaw
+pub mod RanLaw
+pub mod TwoLaw
+pub mod ThreeLaw

@@ -13,7 +13,7 @@ use Rattle.trits.specs.declared.Vector.{Vector}
 use Rattle.walks.specs.Calls.{Trail, pointsIn, stopNumber, stopPlace, reportOf, listAfter}
 use Rattle.walks.specs.declared.Report.{Report}
 use Rattle.held.specs.Stands.{trailOf}
-use Rattle.given.specs.Given.{Given, valuesOf, tableVerdict}
+use Rattle.given.specs.Given.{Given, depthOf, valuesOf, tableVerdict}
 use Rattle.opening.specs.declared.Record.{Record}
 use Rattle.search.specs.declared.Answer.{Answer}
 use Rattle.search.specs.declared.Answer.the-variants.{Ran, Refused}
@@ -23,21 +23,22 @@ use Rattle.opening.specs.Opened.{openedAt}
 -- the walk of the system behind a table (held/specs/Stands): 3^n places; a zero is a common zero of the m equations,
 -- listed as its point; a place costs an addition for each of its positions, at most as many as the degree
 unfoldable pub trailBehind : Given → Trail
-trailBehind g = trailOf 3 (g .degree) (valuesOf g) (g .n) (g .m) (3 ^ g .n)
+trailBehind g = trailOf 3 (depthOf (g .degree)) (valuesOf g) (g .n) (g .m) (3 ^ g .n)
 
--- whether two vectors, two lists of them and two records are the same
+-- whether two vectors, two lists and two records are the same
 abbrev pub sameVector : Vector → Vector → Bool
 sameVector a b = eqb (a .high) (b .high) && eqb (a .low) (b .low)
 
-unfoldable pub sameVectors : List Vector → List Vector → Bool
-sameVectors [] [] = true
-sameVectors [] (w ∷ ws) = false
-sameVectors (v ∷ vs) [] = false
-sameVectors (v ∷ vs) (w ∷ ws) = sameVector v w && sameVectors vs ws
+unfoldable pub sameList : {A : Type 0} → (A → A → Bool) → List A → List A → Bool
+sameList same [] [] = true
+sameList same [] (w ∷ ws) = false
+sameList same (v ∷ vs) [] = false
+sameList same (v ∷ vs) (w ∷ ws) = same v w && sameList same vs ws
 
 unfoldable pub sameRecord : Record → Record → Bool
 sameRecord r s =
-    eqb (r .n) (s .n) && eqb (r .m) (s .m) && eqb (r .place .0) (s .place .0) && sameVector (r .value) (s .value) && sameVectors (r .slots) (s .slots)
+    eqb (r .n) (s .n) && eqb (r .m) (s .m) && eqb (r .place .0) (s .place .0) && sameVector (r .value) (s .value)
+    && sameList sameVector (r .slots) (s .slots) && sameList eqb (r .seconds) (s .seconds)
 
 -- refusal 5: n or m is not the table's, the place is above 3^n, or the record differs from opening at its place
 abbrev pub fits : Given → Record → Bool

@@ -2,12 +2,13 @@
 use crate::Answer;
 use crate::Outcome;
 use crate::records::same_record;
+use crate::walked::Went;
+use crate::walked::walked;
+use given::Degree;
 use gray::Place;
 use opening::Record;
 use refusals::Refusal;
 use refusals::Verdict;
-use walk::Ran;
-use walk::Walker;
 use walks::Report;
 use walks::Stop;
 ghost use mathlib.Core.Path.{_≡_};
@@ -15,20 +16,20 @@ ghost use mathlib.Core.Bool.{true};
 ghost use Prim.Native.Nat.{_≤_};
 ghost use lib.ListN.{length};
 ghost use Rattle.walks.specs.Calls.{stopFrom, listAfter};
-ghost use Rattle.given.specs.Given.{quadratic, Checked};
+ghost use Rattle.given.specs.Given.{tableWith, Checked};
 ghost use Rattle.search.specs.Search.{trailBehind, fits, roomVerdict, ranOf, outcomeOf, listLeft, Tells};
 ghost use Rattle.search.specs.Parts.{reportedOf};
 
 // Whether a record is that of a checked table at its place.
-fn fits_table(n: u64, m: u64, table: &[u64], r: Record) -> bool
-    requires { ⌜ Checked (quadratic n m (now table)) ⌝ }
-    ensures { λ b. ⌜ b ≡ fits (quadratic n m (now (table .entry))) r ⌝ }
+fn fits_table(degree: Degree, n: u64, m: u64, table: &[u64], r: Record) -> bool
+    requires { ⌜ Checked (tableWith degree n m (now table)) ⌝ }
+    ensures { λ b. ⌜ b ≡ fits (tableWith degree n m (now (table .entry))) r ⌝ }
 {
     let at = r.place.0;
     if at > positions::power(n) {
         return false;
     }
-    let o = opening::record_at(n, m, table, at);
+    let o = opening::record_at(degree, n, m, table, at);
     same_record(r, o)
 }
 
@@ -45,15 +46,13 @@ pub fn stop_of(at: u64, end: u64, found: usize, len: usize) -> Stop
     Stop::Spent(Place(at))
 }
 
-// What a walk from place `from` did, and the record that it left.
-fn reported(n: u64, m: u64, from: u64, end: u64, len: usize, t: Ran) -> Outcome
-    requires { ⌜ from ≤ t .walker .place ⌝ }
-    ensures { λ o. ⌜ o ≡ reportedOf n m from end len t ⌝ }
+// The outcome of a walk from place `from` that left t.
+fn reported(from: u64, end: u64, len: usize, t: Went) -> Outcome
+    requires { ⌜ from ≤ t .«record» .place .0 ⌝ }
+    ensures { λ o. ⌜ o ≡ reportedOf from end len t ⌝ }
 {
-    let w = t.walker;
-    let at = w.place;
-    let value = w.value;
-    let slots = w.slots;
+    let record = t.record;
+    let at = record.place.0;
     let stop = stop_of(at, end, t.found, len);
     Outcome {
         answer: Answer::Ran(Report {
@@ -62,34 +61,29 @@ fn reported(n: u64, m: u64, from: u64, end: u64, len: usize, t: Ran) -> Outcome
             additions: t.additions,
             found: t.found as u64,
         }),
-        record: Record {
-            n,
-            m,
-            place: Place(at),
-            value,
-            slots,
-        },
+        record,
     }
 }
 
 // The walk of a call that nothing refuses. Public for lists that are filled piece by piece, whose calls are judged once.
-pub fn ran(n: u64, m: u64, table: &[u64], r: Record, budget: u64, list: &mut [u64]) -> Outcome
-    requires { ⌜ Checked (quadratic n m (now table)) × (fits (quadratic n m (now table)) r ≡ true) ⌝ }
-    ensures { λ o. ⌜ (o ≡ ranOf (quadratic n m (now (table .entry))) (r .place .0) budget (length (now (list .entry))))
-        × (now (list .exit) ≡ listAfter (trailBehind (quadratic n m (now (table .entry)))) budget (r .place .0) (now (list .entry))) ⌝ }
+pub fn ran(
+    degree: Degree,
+    n: u64,
+    m: u64,
+    table: &[u64],
+    r: Record,
+    budget: u64,
+    list: &mut [u64],
+) -> Outcome
+    requires { ⌜ Checked (tableWith degree n m (now table)) × (fits (tableWith degree n m (now table)) r ≡ true) ⌝ }
+    ensures { λ o. ⌜ (o ≡ ranOf (tableWith degree n m (now (table .entry))) (r .place .0) budget (length (now (list .entry))))
+        × (now (list .exit) ≡ listAfter (trailBehind (tableWith degree n m (now (table .entry)))) budget (r .place .0) (now (list .entry))) ⌝ }
 {
     let from = r.place.0;
-    let value = r.value;
-    let slots = r.slots;
-    let w = Walker {
-        place: from,
-        value,
-        slots,
-    };
     let end = positions::power(n);
     let len = list.len();
-    let t = walk::run(table, n as usize, end, w, budget, list);
-    reported(n, m, from, end, len, t)
+    let t = walked(degree, n, m, table, end, r, budget, list);
+    reported(from, end, len, t)
 }
 
 // A refusal: the record is as it was.
@@ -103,11 +97,19 @@ fn turned_away(f: Refusal, r: Record) -> Outcome
 }
 
 // The table was checked: record, budget and the list's length are left to judge.
-fn judged_checked(n: u64, m: u64, table: &[u64], r: Record, budget: u64, room: usize) -> Verdict
-    requires { ⌜ Checked (quadratic n m (now table)) ⌝ }
-    ensures { λ v. ⌜ v ≡ roomVerdict (quadratic n m (now (table .entry))) r budget room ⌝ }
+fn judged_checked(
+    degree: Degree,
+    n: u64,
+    m: u64,
+    table: &[u64],
+    r: Record,
+    budget: u64,
+    room: usize,
+) -> Verdict
+    requires { ⌜ Checked (tableWith degree n m (now table)) ⌝ }
+    ensures { λ v. ⌜ v ≡ roomVerdict (tableWith degree n m (now (table .entry))) r budget room ⌝ }
 {
-    if !fits_table(n, m, table, r) {
+    if !fits_table(degree, n, m, table, r) {
         return Verdict::Refused(Refusal::Record);
     }
     if budget == 0 {
@@ -120,25 +122,41 @@ fn judged_checked(n: u64, m: u64, table: &[u64], r: Record, budget: u64, room: u
 }
 
 // All that a call is refused for, with a list of so many entries.
-pub fn judged(n: u64, m: u64, table: &[u64], r: Record, budget: u64, room: usize) -> Verdict
-    ensures { λ v. ⌜ v ≡ roomVerdict (quadratic n m (now (table .entry))) r budget room ⌝ }
+pub fn judged(
+    degree: Degree,
+    n: u64,
+    m: u64,
+    table: &[u64],
+    r: Record,
+    budget: u64,
+    room: usize,
+) -> Verdict
+    ensures { λ v. ⌜ v ≡ roomVerdict (tableWith degree n m (now (table .entry))) r budget room ⌝ }
 {
-    let verdict = tables::check(n, m, table);
+    let verdict = given::check(degree, n, m, table);
     match verdict {
         Verdict::Refused(f) => Verdict::Refused(f),
-        Verdict::Done => judged_checked(n, m, table, r, budget, room),
+        Verdict::Done => judged_checked(degree, n, m, table, r, budget, room),
     }
 }
 
 // One call: at most budget points from the record's place on, each common zero's point listed from the front of list.
-pub fn search(n: u64, m: u64, table: &[u64], r: Record, budget: u64, list: &mut [u64]) -> Outcome
-    ensures { λ o. ⌜ (o ≡ outcomeOf (quadratic n m (now (table .entry))) r budget (now (list .entry)))
-        × (now (list .exit) ≡ listLeft (quadratic n m (now (table .entry))) r budget (now (list .entry)))
-        × Tells (quadratic n m (now (table .entry))) r budget (now (list .entry)) (o .answer) ⌝ }
+pub fn search(
+    degree: Degree,
+    n: u64,
+    m: u64,
+    table: &[u64],
+    r: Record,
+    budget: u64,
+    list: &mut [u64],
+) -> Outcome
+    ensures { λ o. ⌜ (o ≡ outcomeOf (tableWith degree n m (now (table .entry))) r budget (now (list .entry)))
+        × (now (list .exit) ≡ listLeft (tableWith degree n m (now (table .entry))) r budget (now (list .entry)))
+        × Tells (tableWith degree n m (now (table .entry))) r budget (now (list .entry)) (o .answer) ⌝ }
 {
-    let verdict = judged(n, m, table, r, budget, list.len());
+    let verdict = judged(degree, n, m, table, r, budget, list.len());
     match verdict {
         Verdict::Refused(f) => turned_away(f, r),
-        Verdict::Done => ran(n, m, table, r, budget, list),
+        Verdict::Done => ran(degree, n, m, table, r, budget, list),
     }
 }

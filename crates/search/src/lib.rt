@@ -7,6 +7,7 @@ use walks::Report;
 mod calls;
 mod lent;
 mod records;
+mod walked;
 
 pub use calls::judged;
 pub use calls::ran;

@@ -1,9 +1,11 @@
 // Two records are compared whole, field by field.
 use opening::Record;
 use refusals::MOST_UNKNOWNS;
+use refusals::SECOND_WORDS;
 use trits::Vector;
 ghost use mathlib.Core.Path.{_≡_};
-ghost use Rattle.search.specs.Search.{sameVector, sameVectors, sameRecord};
+ghost use lib.Dec.{eqb};
+ghost use Rattle.search.specs.Search.{sameVector, sameList, sameRecord};
 
 fn same_vector(a: Vector, b: Vector) -> bool
     ensures { λ r. ⌜ r ≡ sameVector a b ⌝ }
@@ -15,13 +17,26 @@ fn same_vector(a: Vector, b: Vector) -> bool
 }
 
 fn same_slots(a: [Vector; MOST_UNKNOWNS], b: [Vector; MOST_UNKNOWNS]) -> bool
-    ensures { λ r. ⌜ r ≡ sameVectors a b ⌝ }
+    ensures { λ r. ⌜ r ≡ sameList sameVector a b ⌝ }
 {
     let mut i: usize = 0;
     while i < MOST_UNKNOWNS {
         let v = a[i];
         let w = b[i];
         if !same_vector(v, w) {
+            return false;
+        }
+        i += 1;
+    }
+    true
+}
+
+fn same_seconds(a: [u64; SECOND_WORDS], b: [u64; SECOND_WORDS]) -> bool
+    ensures { λ r. ⌜ r ≡ sameList eqb a b ⌝ }
+{
+    let mut i: usize = 0;
+    while i < SECOND_WORDS {
+        if a[i] != b[i] {
             return false;
         }
         i += 1;
@@ -49,5 +64,10 @@ pub(crate) fn same_record(a: Record, b: Record) -> bool
     }
     let s = a.slots;
     let t = b.slots;
-    same_slots(s, t)
+    if !same_slots(s, t) {
+        return false;
+    }
+    let x = a.seconds;
+    let y = b.seconds;
+    same_seconds(x, y)
 }

@@ -1,1 +1,3 @@
 pub mod VerdictLaw
+pub mod ReadingLaw
+pub mod OneLaw

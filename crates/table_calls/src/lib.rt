@@ -1,43 +1,46 @@
 // The operations on tables as numbers: 0, or that of the refusal, which leaves what was lent as it was.
-// Contracts cite specs/Call (evaluation) and tables/specs/Answers (the others).
+// Tables of either degree: the number of words tells which. Contracts cite specs/Call.
 use gray::Point;
 ghost use mathlib.Core.Path.{_≡_};
 ghost use Rattle.refusals.specs.Refusal.{codeOf};
-ghost use Rattle.tables.specs.Answers.{checkedOf, packVerdict, packAfter, copyVerdict, differencesAfter, coefficientsAfter};
-ghost use Rattle.table_calls.specs.Call.{evaluateCall, evaluateAfter};
+ghost use Rattle.table_calls.specs.Call.{checkCall, packCall, packLeft, copyCall, differencesLeft, coefficientsLeft, evaluateCall, evaluateAfter};
 
 // Signed rows into a table of words.
 pub fn pack(n: u64, m: u64, rows: &[i8], table: &mut [u64]) -> u64
-    ensures { λ c. ⌜ (c ≡ codeOf (packVerdict n m (now (rows .entry)) (now (table .entry))))
-        × (now (table .exit) ≡ packAfter n m (now (rows .entry)) (now (table .entry))) ⌝ }
+    ensures { λ c. ⌜ (c ≡ codeOf (packCall n m (now (rows .entry)) (now (table .entry))))
+        × (now (table .exit) ≡ packLeft n m (now (rows .entry)) (now (table .entry))) ⌝ }
 {
-    let packed = rows::pack(n, m, rows, table);
+    let degree = given::degree_of(n, table.len());
+    let packed = operations::pack(degree, n, m, rows, table);
     refusals::code(packed)
 }
 
 // Whether a table has its length and only legal pairs.
 pub fn check(n: u64, m: u64, table: &[u64]) -> u64
-    ensures { λ c. ⌜ c ≡ codeOf (checkedOf n m (now (table .entry))) ⌝ }
+    ensures { λ c. ⌜ c ≡ codeOf (checkCall n m (now (table .entry))) ⌝ }
 {
-    let checked = tables::check(n, m, table);
+    let degree = given::degree_of(n, table.len());
+    let checked = given::check(degree, n, m, table);
     refusals::code(checked)
 }
 
 // The table of differences of a coefficient table.
 pub fn differences(n: u64, m: u64, coefficients: &[u64], table: &mut [u64]) -> u64
-    ensures { λ c. ⌜ (c ≡ codeOf (copyVerdict n m (now (coefficients .entry)) (now (table .entry))))
-        × (now (table .exit) ≡ differencesAfter n m (now (coefficients .entry)) (now (table .entry))) ⌝ }
+    ensures { λ c. ⌜ (c ≡ codeOf (copyCall n m (now (coefficients .entry)) (now (table .entry))))
+        × (now (table .exit) ≡ differencesLeft n m (now (coefficients .entry)) (now (table .entry))) ⌝ }
 {
-    let taken = differences::differences(n, m, coefficients, table);
+    let degree = given::degree_of(n, coefficients.len());
+    let taken = operations::differences(degree, n, m, coefficients, table);
     refusals::code(taken)
 }
 
 // The coefficient table of a table of differences.
 pub fn coefficients(n: u64, m: u64, table: &[u64], coefficients: &mut [u64]) -> u64
-    ensures { λ c. ⌜ (c ≡ codeOf (copyVerdict n m (now (table .entry)) (now (coefficients .entry))))
-        × (now (coefficients .exit) ≡ coefficientsAfter n m (now (table .entry)) (now (coefficients .entry))) ⌝ }
+    ensures { λ c. ⌜ (c ≡ codeOf (copyCall n m (now (table .entry)) (now (coefficients .entry))))
+        × (now (coefficients .exit) ≡ coefficientsLeft n m (now (table .entry)) (now (coefficients .entry))) ⌝ }
 {
-    let restored = differences::coefficients(n, m, table, coefficients);
+    let degree = given::degree_of(n, table.len());
+    let restored = operations::coefficients(degree, n, m, table, coefficients);
     refusals::code(restored)
 }
 
@@ -52,6 +55,7 @@ pub fn evaluate(n: u64, m: u64, coefficients: &[u64], point: u64, value: &mut [u
         return refused;
     }
     let x = Point(point);
-    let e = evaluation::evaluate(n, m, coefficients, x);
+    let degree = given::degree_of(n, coefficients.len());
+    let e = operations::evaluate(degree, n, m, coefficients, x);
     lent::put_value(e, value)
 }

@@ -4,20 +4,19 @@
 ghost use mathlib.Core.Path.{_≡_};
 ghost use lib.ListN.{length};
 ghost use Rattle.refusals.specs.Refusal.{codeOf};
-ghost use Rattle.tables.specs.Answers.{checkedOf, packVerdict, packAfter, copyVerdict, differencesAfter, coefficientsAfter};
 ghost use Rattle.reader.specs.Answers.{wordsAfter, callOf, callCode, toldAfter};
 ghost use Rattle.exchange.specs.Answers as tidied;
-ghost use Rattle.given.specs.Given.{quadratic};
+ghost use Rattle.given.specs.Given.{tableTold};
 ghost use Rattle.number_calls.specs.Call.{convertCall, pointAfter, placeAfter, balancedAfter, unbalancedCall, unbalancedAfter};
-ghost use Rattle.table_calls.specs.Call.{evaluateCall, evaluateAfter};
+ghost use Rattle.table_calls.specs.Call.{checkCall, packCall, packLeft, copyCall, differencesLeft, coefficientsLeft, evaluateCall, evaluateAfter};
 ghost use Rattle.record_calls.specs.Call.{openCall, openAfter};
-ghost use Rattle.search_calls.specs.Call.{callVerdict, recordBytesAfter, listBytesAfter, answerBytesAfter};
+ghost use Rattle.search_calls.specs.Call.{tableLent, callVerdict, recordBytesAfter, listBytesAfter, answerBytesAfter};
 
 // Signed rows into a table of words.
 #[no_mangle]
 pub extern "C" fn vayudrit_pack(n: u64, m: u64, rows: &[i8], table: &mut [u64]) -> u64
-    ensures { λ c. ⌜ (c ≡ codeOf (packVerdict n m (now (rows .entry)) (now (table .entry))))
-        × (now (table .exit) ≡ packAfter n m (now (rows .entry)) (now (table .entry))) ⌝ }
+    ensures { λ c. ⌜ (c ≡ codeOf (packCall n m (now (rows .entry)) (now (table .entry))))
+        × (now (table .exit) ≡ packLeft n m (now (rows .entry)) (now (table .entry))) ⌝ }
 {
     table_calls::pack(n, m, rows, table)
 }
@@ -25,7 +24,7 @@ pub extern "C" fn vayudrit_pack(n: u64, m: u64, rows: &[i8], table: &mut [u64]) 
 // Whether a table has its length and only legal pairs.
 #[no_mangle]
 pub extern "C" fn vayudrit_check(n: u64, m: u64, table: &[u64]) -> u64
-    ensures { λ c. ⌜ c ≡ codeOf (checkedOf n m (now (table .entry))) ⌝ }
+    ensures { λ c. ⌜ c ≡ codeOf (checkCall n m (now (table .entry))) ⌝ }
 {
     table_calls::check(n, m, table)
 }
@@ -38,8 +37,8 @@ pub extern "C" fn vayudrit_differences(
     coefficients: &[u64],
     table: &mut [u64],
 ) -> u64
-    ensures { λ c. ⌜ (c ≡ codeOf (copyVerdict n m (now (coefficients .entry)) (now (table .entry))))
-        × (now (table .exit) ≡ differencesAfter n m (now (coefficients .entry)) (now (table .entry))) ⌝ }
+    ensures { λ c. ⌜ (c ≡ codeOf (copyCall n m (now (coefficients .entry)) (now (table .entry))))
+        × (now (table .exit) ≡ differencesLeft n m (now (coefficients .entry)) (now (table .entry))) ⌝ }
 {
     table_calls::differences(n, m, coefficients, table)
 }
@@ -52,8 +51,8 @@ pub extern "C" fn vayudrit_coefficients(
     table: &[u64],
     coefficients: &mut [u64],
 ) -> u64
-    ensures { λ c. ⌜ (c ≡ codeOf (copyVerdict n m (now (table .entry)) (now (coefficients .entry))))
-        × (now (coefficients .exit) ≡ coefficientsAfter n m (now (table .entry)) (now (coefficients .entry))) ⌝ }
+    ensures { λ c. ⌜ (c ≡ codeOf (copyCall n m (now (table .entry)) (now (coefficients .entry))))
+        × (now (coefficients .exit) ≡ coefficientsLeft n m (now (table .entry)) (now (coefficients .entry))) ⌝ }
 {
     table_calls::coefficients(n, m, table, coefficients)
 }
@@ -109,7 +108,7 @@ pub extern "C" fn vayudrit_unbalanced(n: u64, number: i64, point: &mut [u64]) ->
     number_calls::unbalanced(n, number, point)
 }
 
-// The record of a table at a place, as 45 words.
+// The record of a table of either degree at a place, as 465 words.
 #[no_mangle]
 pub extern "C" fn vayudrit_open(
     n: u64,
@@ -118,13 +117,13 @@ pub extern "C" fn vayudrit_open(
     place: u64,
     record: &mut [u64],
 ) -> u64
-    ensures { λ c. ⌜ (c ≡ codeOf (openCall (quadratic n m (now (table .entry))) place (now («record» .entry))))
-        × (now («record» .exit) ≡ openAfter (quadratic n m (now (table .entry))) place (now («record» .entry))) ⌝ }
+    ensures { λ c. ⌜ (c ≡ codeOf (openCall (tableTold n m (now (table .entry))) place (now («record» .entry))))
+        × (now («record» .exit) ≡ openAfter (tableTold n m (now (table .entry))) place (now («record» .entry))) ⌝ }
 {
     record_calls::open(n, m, table, place, record)
 }
 
-// The search for C: 0, or the number of the refusal, which alters no byte.
+// The search for C, of a table of either degree: 0, or the number of the refusal, which alters no byte.
 #[no_mangle]
 pub extern "C" fn vayudrit_search(
     n: u64,
@@ -135,10 +134,10 @@ pub extern "C" fn vayudrit_search(
     list: &mut [u8],
     answer: &mut [u8],
 ) -> u64
-    ensures { λ c. ⌜ (c ≡ codeOf (callVerdict (quadratic n m (now (table .entry))) (now («record» .entry)) budget (now (list .entry)) (now (answer .entry))))
-        × (now («record» .exit) ≡ recordBytesAfter (quadratic n m (now (table .entry))) (now («record» .entry)) budget (now (list .entry)) (now (answer .entry)))
-        × (now (list .exit) ≡ listBytesAfter (quadratic n m (now (table .entry))) (now («record» .entry)) budget (now (list .entry)) (now (answer .entry)))
-        × (now (answer .exit) ≡ answerBytesAfter (quadratic n m (now (table .entry))) (now («record» .entry)) budget (now (list .entry)) (now (answer .entry))) ⌝ }
+    ensures { λ c. ⌜ (c ≡ codeOf (callVerdict (tableLent n m (now (table .entry)) (now («record» .entry))) (now («record» .entry)) budget (now (list .entry)) (now (answer .entry))))
+        × (now («record» .exit) ≡ recordBytesAfter (tableLent n m (now (table .entry)) (now («record» .entry))) (now («record» .entry)) budget (now (list .entry)) (now (answer .entry)))
+        × (now (list .exit) ≡ listBytesAfter (tableLent n m (now (table .entry)) (now («record» .entry))) (now («record» .entry)) budget (now (list .entry)) (now (answer .entry)))
+        × (now (answer .exit) ≡ answerBytesAfter (tableLent n m (now (table .entry)) (now («record» .entry))) (now («record» .entry)) budget (now (list .entry)) (now (answer .entry))) ⌝ }
 {
     search_calls::search(n, m, table, record, budget, list, answer)
 }

@@ -1,23 +1,29 @@
 -- A record as words: one slot after another, and the round trips.
-use mathlib.Core.Path.{_≡_, refl, sym, ap, _∙_}
+use mathlib.Core.Path.{_≡_, refl, sym, ap, ap₂, _∙_}
 use mathlib.Core.List.{List, [], _∷_, _++_, append-assoc, append-nil}
-use Prim.Native.Nat.{ℕ, zero, suc, _+_, _*_, _<_}
+use Prim.Native.Nat.{ℕ, zero, suc, _+_, _-_, _*_, _≤_, _<_}
 use native.Mathlib.Numerals.{add-one}
 use native.Mathlib.Omega.{arith}
 use mir.Val.{Val}
-use lib.ListN.{length, getD, set, take, drop, length-set, length-drop, length-map}
-use lib.Seq.{take-suc, take-suc-set, drop-cons, take-all, drop-length}
+use lib.ListN.{length, getD, set, take, drop, length-set, length-drop, length-map, length-append, take-append-drop, drop-of-length-le}
+use lib.Seq.{take-suc, take-suc-set, drop-cons, take-all, drop-length, length-take-le, take-at, drop-at}
 use Rattle.trits.specs.declared.Vector.{Vector}
+use Rattle.codec.specs.Codec.{wordsOf, bytesFrom, pasted}
+use Rattle.codec.proofs.CodecLaw.{words-join, length-words, length-from, from-append, paste-paste, paste-whole}
 use denote.Laws.{Is}
 use denote.Struct.Laws as LL
 use Rattle.opening.specs.declared.Record.{Record}
 use Rattle.opening.proofs.Record as T
 use Rattle.opening.proofs.Record.Laws as T′
-use Rattle.wire.specs.Wire.{vectorsOf, wordsFrom, recordOf, recordWords}
+use Rattle.wire.specs.Wire.{vectorsOf, wordsFrom, firstWords, recordWords, recordWith, recordOf}
 
 -- a record that is a value of its type has twenty slots
 pub slots-long : (r : Record) (vs : List Val) → Is T.the-row r vs → length (r .slots) ≡ 20
 slots-long r vs is = sym (length-map (r .slots) _) ∙ LL.owed T.the-type T′.the-laws r vs is .1 .1 .1 .1 .0 .1 .0 .1
+
+-- and as many words of second slots as it should
+pub seconds-long : (r : Record) (vs : List Val) → Is T.the-row r vs → length (r .seconds) ≡ 420
+seconds-long r vs is = sym (length-map (r .seconds) _) ∙ LL.owed T.the-type T′.the-laws r vs is .1 .1 .1 .1 .1 .0 .1 .0 .1
 
 pub vectors-two : (h l : ℕ) (t : List ℕ) → vectorsOf (h ∷ l ∷ t) ≡ record { high = h; low = l } ∷ vectorsOf t
 unfolding vectorsOf
@@ -123,11 +129,23 @@ words-vectors k (h ∷ []) e = absurd (omega (arith, e))
 words-vectors zero (h ∷ l ∷ w) e = absurd (omega (arith, e))
 words-vectors (suc k) (h ∷ l ∷ w) e = ap (λ (m : List ℕ). h ∷ l ∷ m) (words-vectors k w (omega (arith, e)))
 
-pub record-words : (r : Record) → recordOf (recordWords r) ≡ r
-record-words r = ap (λ (s : List Vector). record { n = r .n; m = r .m; place = r .place; value = r .value; slots = s }) (vectors-words (r .slots))
+pub words-length : (vs : List Vector) → length (wordsFrom vs) ≡ 2 * length vs
+unfolding wordsFrom
+words-length [] = refl
+words-length (v ∷ vs) = omega (arith, words-length vs)
 
-pub words-record : (w : List ℕ) → length w ≡ 45 → recordWords (recordOf w) ≡ w
-words-record w e =
+first-length : (r : Record) → length (r .slots) ≡ 20 → length (firstWords r) ≡ 45
+first-length r e = omega (arith, words-length (r .slots), e)
+
+pub record-words : (r : Record) → length (r .slots) ≡ 20 → recordOf (recordWords r) ≡ r
+record-words r e =
+    let l = first-length r e in
+    ap₂ recordWith (take-at (firstWords r) (r .seconds) 45 l) (drop-at (firstWords r) (r .seconds) 45 l)
+    ∙ ap (λ (s : List Vector). record { n = r .n; m = r .m; place = r .place; value = r .value; slots = s; seconds = r .seconds }) (vectors-words (r .slots))
+
+-- the first words of a record that was read are those that were read
+first-words : (w s : List ℕ) → length w ≡ 45 → firstWords (recordWith w s) ≡ w
+first-words w s e =
     let d : length (drop 5 w) ≡ 2 * 20 = length-drop 5 w ∙ omega (arith, e) in
     ap (λ (m : List ℕ). getD w 0 0 ∷ getD w 1 0 ∷ getD w 2 0 ∷ getD w 3 0 ∷ getD w 4 0 ∷ m) (words-vectors 20 (drop 5 w) d)
     ∙ sym (
@@ -136,3 +154,34 @@ words-record w e =
     ∙ ap (λ (m : List ℕ). getD w 1 0 ∷ m) (drop-cons w 2 0 (omega (arith, e))
     ∙ ap (λ (m : List ℕ). getD w 2 0 ∷ m) (drop-cons w 3 0 (omega (arith, e))
     ∙ ap (λ (m : List ℕ). getD w 3 0 ∷ m) (drop-cons w 4 0 (omega (arith, e)))))))
+
+pub words-record : (w : List ℕ) → length w ≡ 465 → recordWords (recordOf w) ≡ w
+words-record w e =
+    ap (λ (m : List ℕ). m ++ drop 45 w) (first-words (take 45 w) (drop 45 w) (length-take-le 45 w (omega (arith, e)))) ∙ take-append-drop 45 w
+
+-- ---- in two parts: the first words, and those of the second slots
+
+pub read-parts : (b : List ℕ) → recordWith (wordsOf 45 b) (wordsOf 420 (take (length b - 360) (drop 360 b))) ≡ recordOf (wordsOf 465 b)
+read-parts b =
+    let j : wordsOf 465 b ≡ wordsOf 45 b ++ wordsOf 420 (drop 360 b) = words-join 45 420 b in
+    let s : take (length b - 360) (drop 360 b) ≡ drop 360 b = take-all (length b - 360) (drop 360 b) (omega (arith, length-drop 360 b)) in
+    ap₂ recordWith
+    (sym (ap (take 45) j ∙ take-at (wordsOf 45 b) (wordsOf 420 (drop 360 b)) 45 (length-words 45 b)))
+    (ap (wordsOf 420) s ∙ sym (ap (drop 45) j ∙ drop-at (wordsOf 45 b) (wordsOf 420 (drop 360 b)) 45 (length-words 45 b)))
+
+-- each written into its own words
+pub put-parts : (w x y : List ℕ) (k : ℕ) → length x ≡ 45 → length (drop 45 w) ≤ k → take 45 (x ++ drop 45 w) ++ (y ++ drop k (drop 45 (x ++ drop 45 w))) ≡ x ++ y
+put-parts w x y k e h =
+    ap₂ (λ (u v : List ℕ). u ++ (y ++ v)) (take-at x (drop 45 w) 45 e) (ap (drop k) (drop-at x (drop 45 w) 45 e) ∙ drop-of-length-le (drop 45 w) {i = k} h)
+    ∙ ap (λ (u : List ℕ). x ++ u) (append-nil y)
+
+-- and into bytes, one after the other
+pub write-parts : (b u v : List ℕ) → length b ≡ 3720 → length u ≡ 45 → length v ≡ 420 → pasted (pasted b 0 (bytesFrom u)) 360 (bytesFrom v) ≡ bytesFrom (u ++ v)
+write-parts b u v e eu ev =
+    let lu : length (bytesFrom u) ≡ 360 = length-from u ∙ ap (λ (k : ℕ). 8 * k) eu in
+    let lv : length (bytesFrom v) ≡ 3360 = length-from v ∙ ap (λ (k : ℕ). 8 * k) ev in
+    let at : 360 ≡ 0 + length (bytesFrom u) = omega (arith, lu) in
+    ap (λ (k : ℕ). pasted (pasted b 0 (bytesFrom u)) k (bytesFrom v)) at
+    ∙ paste-paste b 0 (bytesFrom u) (bytesFrom v) (omega (arith, lu, lv, e))
+    ∙ ap (pasted b 0) (sym (from-append u v))
+    ∙ paste-whole b (u ++ v) (omega (arith, e, length-append u v, eu, ev))

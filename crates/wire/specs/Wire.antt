@@ -1,7 +1,7 @@
 -- A record as words and as bytes.
-use mathlib.Core.List.{List, [], _∷_}
+use mathlib.Core.List.{List, [], _∷_, _++_}
 use Prim.Native.Nat.{ℕ}
-use lib.ListN.{getD, drop}
+use lib.ListN.{getD, take, drop}
 use Rattle.refusals.specs.Limits as limits
 use Rattle.trits.specs.declared.Vector.{Vector}
 use Rattle.codec.specs.Codec.{wordsOf}
@@ -17,21 +17,30 @@ vectorsOf [] = []
 vectorsOf (h ∷ []) = []
 vectorsOf (h ∷ l ∷ t) = record { high = h; low = l } ∷ vectorsOf t
 
--- a record as 45 words: n, m, place, the value's two, and two for each of the 20 slots
-abbrev pub recordWords : Record → List ℕ
-recordWords r = r .n ∷ r .m ∷ r .place .0 ∷ r .value .high ∷ r .value .low ∷ wordsFrom (r .slots)
+-- the first 45 words of a record: n, m, place, the value's two, and two for each of the 20 slots
+abbrev pub firstWords : Record → List ℕ
+firstWords r = r .n ∷ r .m ∷ r .place .0 ∷ r .value .high ∷ r .value .low ∷ wordsFrom (r .slots)
 
--- the record that 45 words stand for
-abbrev pub recordOf : List ℕ → Record
-recordOf w =
+-- a record as 465 words: then the second slots, as they stand in it
+abbrev pub recordWords : Record → List ℕ
+recordWords r = firstWords r ++ r .seconds
+
+-- the record of its first 45 words w and of the words s of its second slots
+abbrev pub recordWith : List ℕ → List ℕ → Record
+recordWith w s =
     record {
       n = getD w 0 0;
       m = getD w 1 0;
       place = record { 0 = getD w 2 0 };
       value = record { high = getD w 3 0; low = getD w 4 0 };
       slots = vectorsOf (drop 5 w);
+      seconds = s;
     }
 
--- the record of 360 bytes
+-- the record that 465 words stand for
+abbrev pub recordOf : List ℕ → Record
+recordOf w = recordWith (take limits.firstWords w) (drop limits.firstWords w)
+
+-- the record of 3,720 bytes
 abbrev pub recordIn : List ℕ → Record
 recordIn b = recordOf (wordsOf limits.recordWords b)

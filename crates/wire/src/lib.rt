@@ -1,19 +1,21 @@
 // Walk records as words, and these as bytes. Contracts cite specs/Wire.
 use gray::Place;
 use opening::Record;
+use refusals::FIRST_LENGTH;
+use refusals::FIRST_WORDS;
 use refusals::MOST_UNKNOWNS;
-use refusals::RECORD_WORDS;
+use refusals::SECOND_WORDS;
 use trits::Vector;
 ghost use mathlib.Core.Path.{_≡_};
 ghost use lib.ListN.{length};
 ghost use Rattle.refusals.specs.Limits as limits;
 ghost use Rattle.codec.specs.Codec.{wordsOf, bytesFrom};
-ghost use Rattle.wire.specs.Wire.{recordOf, recordWords};
+ghost use Rattle.wire.specs.Wire.{firstWords, recordWith, recordOf, recordWords};
 
-// The record that 45 words stand for.
-fn record_of(w: &[u64]) -> Record
-    requires { ⌜ length (now w) ≡ limits.recordWords ⌝ }
-    ensures { λ r. ⌜ r ≡ recordOf (now (w .entry)) ⌝ }
+// The record of its first 45 words and of its second slots.
+fn record_of(w: &[u64], seconds: [u64; SECOND_WORDS]) -> Record
+    requires { ⌜ length (now w) ≡ limits.firstWords ⌝ }
+    ensures { λ r. ⌜ r ≡ recordWith (now (w .entry)) seconds ⌝ }
 {
     let none = Vector { high: 0, low: 0 };
     let mut slots = [none; MOST_UNKNOWNS];
@@ -37,13 +39,14 @@ fn record_of(w: &[u64]) -> Record
         place,
         value,
         slots,
+        seconds,
     }
 }
 
-// All of w becomes the 45 words of a record.
-pub fn put_record(r: Record, w: &mut [u64])
-    requires { ⌜ length (now w) ≡ limits.recordWords ⌝ }
-    ensures { λ _. ⌜ now (w .exit) ≡ recordWords r ⌝ }
+// All of w becomes the first 45 words of a record.
+fn put_first(r: Record, w: &mut [u64])
+    requires { ⌜ length (now w) ≡ limits.firstWords ⌝ }
+    ensures { λ _. ⌜ now (w .exit) ≡ firstWords r ⌝ }
 {
     w[0] = r.n;
     w[1] = r.m;
@@ -59,22 +62,48 @@ pub fn put_record(r: Record, w: &mut [u64])
     }
 }
 
-// The record that 360 bytes stand for.
+// All of w becomes the words of second slots.
+fn put_seconds(s: [u64; SECOND_WORDS], w: &mut [u64])
+    requires { ⌜ length (now w) ≡ limits.secondWords ⌝ }
+    ensures { λ _. ⌜ now (w .exit) ≡ s ⌝ }
+{
+    let mut i: usize = 0;
+    while i < SECOND_WORDS {
+        w[i] = s[i];
+        i += 1;
+    }
+}
+
+// All of w becomes the 465 words of a record.
+pub fn put_record(r: Record, w: &mut [u64])
+    requires { ⌜ length (now w) ≡ limits.recordWords ⌝ }
+    ensures { λ _. ⌜ now (w .exit) ≡ recordWords r ⌝ }
+{
+    put_first(r, &mut w[..FIRST_WORDS]);
+    let s = r.seconds;
+    put_seconds(s, &mut w[FIRST_WORDS..]);
+}
+
+// The record that 3,720 bytes stand for.
 pub fn read_record(b: &[u8]) -> Record
     requires { ⌜ length (now b) ≡ limits.recordLength ⌝ }
     ensures { λ r. ⌜ r ≡ recordOf (wordsOf limits.recordWords (now (b .entry))) ⌝ }
 {
-    let mut w = [0u64; RECORD_WORDS];
+    let mut w = [0u64; FIRST_WORDS];
     codec::decode(b, &mut w);
-    record_of(&w)
+    let mut s = [0u64; SECOND_WORDS];
+    codec::decode(&b[FIRST_LENGTH..], &mut s);
+    record_of(&w, s)
 }
 
-// All of b becomes the 360 bytes of a record.
+// All of b becomes the 3,720 bytes of a record.
 pub fn write_record(r: Record, b: &mut [u8])
     requires { ⌜ length (now b) ≡ limits.recordLength ⌝ }
     ensures { λ _. ⌜ now (b .exit) ≡ bytesFrom (recordWords r) ⌝ }
 {
-    let mut w = [0u64; RECORD_WORDS];
-    put_record(r, &mut w);
+    let mut w = [0u64; FIRST_WORDS];
+    put_first(r, &mut w);
     codec::encode(&w, b, 0);
+    let s = r.seconds;
+    codec::encode(&s, b, FIRST_WORDS);
 }

@@ -12,7 +12,8 @@ use Rattle.listed.proofs.ListLaw.{listed-rise, row-begun, row-more}
 use Rattle.cubic_tables.specs.Words.{CubicTable, cubicAt}
 use Rattle.cubic_tables.proofs.OrderLaw.{cubic-count-low}
 use Rattle.cubic_evaluation.specs.Parts.{cellSum}
-use Rattle.cubic_evaluation.proofs.ValueLaw.{lin-holds, none-begun, plane-sum}
+use Rattle.cubic_tables.proofs.HoldsLaw.{lin-holds}
+use Rattle.cubic_evaluation.proofs.ValueLaw.{none-begun, plane-sum}
 use Rattle.cubic_evaluation.proofs.plane.Statement.{statement}
 use Rattle.cubic_evaluation.proofs.plane.Tie as tie
 use Rattle.cubic_evaluation.proofs.plane.Reads as reads

@@ -8,7 +8,7 @@ use lib.ListN.{length}
 use Rattle.walks.specs.Calls.{stopFrom}
 use Rattle.given.proofs.TableLaw.{within}
 use Rattle.lists.proofs.PieceLaw.{Held, starts, long, at-within, own, closed, points-fit, found-fit, few, moved, again}
-use Rattle.given.specs.Given.{quadratic}
+use Rattle.given.specs.Given.{tableWith}
 use borrow.Author.Needs.{needs}
 use Rattle.lists.proofs.filled.Statement.{statement}
 use Rattle.lists.proofs.filled.Tie as tie
@@ -21,11 +21,11 @@ use Rattle.lists.proofs.part.Reads as part-reads
 use Rattle.search.proofs.stop_of.Reads as stop-of-reads
 
 abbrev Inv-loop : tie.InvT-loop
-Inv-loop n m table budget words₀ list₀ end len s₀ left₀ at₀ additions₀ words list s left at additions =
-    Held (quadratic n m table) s₀ budget list₀ (budget - left) left at additions list s × (0 < length words) × (length words ≡ length words₀)
+Inv-loop degree n m table budget words₀ list₀ end len s₀ left₀ at₀ additions₀ words list s left at additions =
+    Held (tableWith degree n m table) s₀ budget list₀ (budget - left) left at additions list s × (0 < length words) × (length words ≡ length words₀)
 
 abbrev μ-loop : tie.MeasureT-loop
-μ-loop n m table budget words₀ list₀ end len s₀ left₀ at₀ additions₀ words list s left at additions = left
+μ-loop degree n m table budget words₀ list₀ end len s₀ left₀ at₀ additions₀ words list s left at additions = left
 
 -- src/lib.rt:97:9
 power-requires : tie.Need-power-requires Inv-loop μ-loop
@@ -37,7 +37,7 @@ loop-holds c =
     let s = c .before .before .before .before in
     let a = s .args in
     let z : 0 ≡ a .budget - a .budget = omega arith in
-    (subst (λ (k : ℕ). Held (quadratic (a .n) (a .m) (a .table .now)) (a .r) (a .budget) (a .list .now) k (a .budget) 0 0 (a .list .now) (a .r)) z (starts (quadratic (a .n) (a .m) (a .table .now)) (a .r) (a .budget) (a .list .now) (s .pre .1)), s .pre .2, refl)
+    (subst (λ (k : ℕ). Held (tableWith (a .degree) (a .n) (a .m) (a .table .now)) (a .r) (a .budget) (a .list .now) k (a .budget) 0 0 (a .list .now) (a .r)) z (starts (tableWith (a .degree) (a .n) (a .m) (a .table .now)) (a .r) (a .budget) (a .list .now) (s .pre .1)), s .pre .2, refl)
 
 -- src/lib.rt:104:13
 part-requires : tie.Need-part-requires Inv-loop μ-loop
@@ -45,7 +45,7 @@ part-requires c κs =
     let l = c .before .before .loop in
     let s = c .before .before .before .before .before .before .before in
     let a = s .args in
-    (s .pre .0, own (quadratic (a .n) (a .m) (a .table .now)) (a .r) (a .budget) (a .list .now) (a .budget - l .left) (l .left) (l .at) (l .additions) (l .list) (l .s) (l .inv .0), omega (arith, at-within (quadratic (a .n) (a .m) (a .table .now)) (a .r) (a .budget) (a .list .now) (a .budget - l .left) (l .left) (l .at) (l .additions) (l .list) (l .s) (l .inv .0), long (quadratic (a .n) (a .m) (a .table .now)) (a .r) (a .budget) (a .list .now) (a .budget - l .left) (l .left) (l .at) (l .additions) (l .list) (l .s) (l .inv .0)))
+    (s .pre .0, own (tableWith (a .degree) (a .n) (a .m) (a .table .now)) (a .r) (a .budget) (a .list .now) (a .budget - l .left) (l .left) (l .at) (l .additions) (l .list) (l .s) (l .inv .0), omega (arith, at-within (tableWith (a .degree) (a .n) (a .m) (a .table .now)) (a .r) (a .budget) (a .list .now) (a .budget - l .left) (l .left) (l .at) (l .additions) (l .list) (l .s) (l .inv .0), long (tableWith (a .degree) (a .n) (a .m) (a .table .now)) (a .r) (a .budget) (a .list .now) (a .budget - l .left) (l .left) (l .at) (l .additions) (l .list) (l .s) (l .inv .0)))
 
 -- src/lib.rt:106:13
 did-requires : tie.Need-did-requires Inv-loop μ-loop
@@ -58,7 +58,7 @@ add-at c =
     let l = pt .before .before .before .loop in
     let a = pt .before .before .before .before .before .before .before .before .args in
     let w = c .before .did in
-    omega (arith, found-fit (quadratic (a .n) (a .m) (a .table .now)) (a .r) (a .budget) (a .list .now) (a .budget - l .left) (l .left) (l .at) (l .additions) (l .list) (l .s) (l .inv .0) (length (l .words)) (pt .part .result) (pt .part .last .1 .1 .1 .1 .1 .1 .0) (w .result) (pt .part .ensures .0) (pt .part .ensures .1) (w .ensures), pt .before .before .before .before .before .before .before .before .good .1 .1 .1 .1 .1 .1 .0 .0)
+    omega (arith, found-fit (tableWith (a .degree) (a .n) (a .m) (a .table .now)) (a .r) (a .budget) (a .list .now) (a .budget - l .left) (l .left) (l .at) (l .additions) (l .list) (l .s) (l .inv .0) (length (l .words)) (pt .part .result) (pt .part .last .1 .1 .1 .1 .1 .1 .1 .0) (w .result) (pt .part .ensures .0) (pt .part .ensures .1) (w .ensures), pt .before .before .before .before .before .before .before .before .good .1 .1 .1 .1 .1 .1 .1 .0 .0)
 
 -- src/lib.rt:109:9
 sub-left : tie.Need-sub-left Inv-loop μ-loop
@@ -67,7 +67,7 @@ sub-left c =
     let l = pt .before .before .before .loop in
     let a = pt .before .before .before .before .before .before .before .before .args in
     let w = c .before .before .did in
-    omega (arith, points-fit (quadratic (a .n) (a .m) (a .table .now)) (a .r) (a .budget) (a .list .now) (a .budget - l .left) (l .left) (l .at) (l .additions) (l .list) (l .s) (l .inv .0) (length (l .words)) (pt .part .result) (pt .part .last .1 .1 .1 .1 .1 .1 .0) (w .result) (pt .part .ensures .0) (pt .part .ensures .1) (w .ensures))
+    omega (arith, points-fit (tableWith (a .degree) (a .n) (a .m) (a .table .now)) (a .r) (a .budget) (a .list .now) (a .budget - l .left) (l .left) (l .at) (l .additions) (l .list) (l .s) (l .inv .0) (length (l .words)) (pt .part .result) (pt .part .last .1 .1 .1 .1 .1 .1 .1 .0) (w .result) (pt .part .ensures .0) (pt .part .ensures .1) (w .ensures))
 
 -- src/lib.rt:110:9
 add-additions : tie.Need-add-additions Inv-loop μ-loop
@@ -76,7 +76,7 @@ add-additions c =
     let l = pt .before .before .before .loop in
     let a = pt .before .before .before .before .before .before .before .before .args in
     let w = c .before .before .before .did in
-    omega (arith, few (quadratic (a .n) (a .m) (a .table .now)) (a .r) (a .budget) (a .list .now) (a .budget - l .left) (l .left) (l .at) (l .additions) (l .list) (l .s) (l .inv .0) (length (l .words)) (pt .part .result) (pt .part .last .1 .1 .1 .1 .1 .1 .0) (w .result) (pt .part .ensures .0) (pt .part .ensures .1) (w .ensures) (pt .before .before .before .before .before .before .before .before .pre .0))
+    omega (arith, few (tableWith (a .degree) (a .n) (a .m) (a .table .now)) (a .r) (a .budget) (a .list .now) (a .budget - l .left) (l .left) (l .at) (l .additions) (l .list) (l .s) (l .inv .0) (length (l .words)) (pt .part .result) (pt .part .last .1 .1 .1 .1 .1 .1 .1 .0) (w .result) (pt .part .ensures .0) (pt .part .ensures .1) (w .ensures) (pt .before .before .before .before .before .before .before .before .pre .0))
 
 -- src/lib.rt:112:39
 sub-goes-on : tie.Need-sub-goes-on Inv-loop μ-loop
@@ -85,7 +85,7 @@ sub-goes-on c =
     let l = pt .before .before .before .loop in
     let a = pt .before .before .before .before .before .before .before .before .args in
     let w = c .before .before .before .did in
-    omega (arith, found-fit (quadratic (a .n) (a .m) (a .table .now)) (a .r) (a .budget) (a .list .now) (a .budget - l .left) (l .left) (l .at) (l .additions) (l .list) (l .s) (l .inv .0) (length (l .words)) (pt .part .result) (pt .part .last .1 .1 .1 .1 .1 .1 .0) (w .result) (pt .part .ensures .0) (pt .part .ensures .1) (w .ensures))
+    omega (arith, found-fit (tableWith (a .degree) (a .n) (a .m) (a .table .now)) (a .r) (a .budget) (a .list .now) (a .budget - l .left) (l .left) (l .at) (l .additions) (l .list) (l .s) (l .inv .0) (length (l .words)) (pt .part .result) (pt .part .last .1 .1 .1 .1 .1 .1 .1 .0) (w .result) (pt .part .ensures .0) (pt .part .ensures .1) (w .ensures))
 
 -- src/lib.rt:112:13
 goes-on-requires : tie.Need-goes-on-requires Inv-loop μ-loop
@@ -96,8 +96,8 @@ stop-of-requires : tie.Need-stop-of-requires Inv-loop μ-loop
 stop-of-requires c κs = search needs
 
 -- src/lib.rt:117:29
-sub-t27 : tie.Need-sub-t27 Inv-loop μ-loop
-sub-t27 c =
+sub-points : tie.Need-sub-points Inv-loop μ-loop
+sub-points c =
     let pt = c .before .before .before .before .before .before .before .before .before .before .before in
     let l = pt .before .before .before .loop in
     let a = pt .before .before .before .before .before .before .before .before .args in
@@ -115,7 +115,7 @@ same-length-2 c =
     let l = pt .before .before .before .loop in
     let a = pt .before .before .before .before .before .before .before .before .args in
     let w = c .before .before .before .before .before .before .did in
-    long (quadratic (a .n) (a .m) (a .table .now)) (a .r) (a .budget) (a .list .now) (a .budget - (l .left - w .result .points)) (l .left - w .result .points) (l .at + w .result .found) (l .additions + w .result .additions) _ _ (again (quadratic (a .n) (a .m) (a .table .now)) (a .r) (a .budget) (a .list .now) (l .left) (l .at) (l .additions) (l .list) (l .s) (l .inv .0) (length (l .words)) (pt .part .result) (pt .part .last .1 .1 .1 .1 .1 .1 .0) (w .result) (pt .part .ensures .0) (pt .part .ensures .1) (w .ensures))
+    long (tableWith (a .degree) (a .n) (a .m) (a .table .now)) (a .r) (a .budget) (a .list .now) (a .budget - (l .left - w .result .points)) (l .left - w .result .points) (l .at + w .result .found) (l .additions + w .result .additions) _ _ (again (tableWith (a .degree) (a .n) (a .m) (a .table .now)) (a .r) (a .budget) (a .list .now) (l .left) (l .at) (l .additions) (l .list) (l .s) (l .inv .0) (length (l .words)) (pt .part .result) (pt .part .last .1 .1 .1 .1 .1 .1 .1 .0) (w .result) (pt .part .ensures .0) (pt .part .ensures .1) (w .ensures))
 
 -- src/lib.rt:114:13
 returns : tie.Need-returns Inv-loop μ-loop
@@ -124,9 +124,9 @@ returns c =
     let l = pt .before .before .before .loop in
     let a = pt .before .before .before .before .before .before .before .before .args in
     let w = c .before .before .before .before .before .before .did in
-    let e : pt .before .before .before .before .power .result ≡ 3 ^ a .n = pt .before .before .before .before .power .ensures .0 (omega (arith, within (quadratic (a .n) (a .m) (a .table .now)) (pt .before .before .before .before .before .before .before .before .pre .0) .most)) in
+    let e : pt .before .before .before .before .power .result ≡ 3 ^ a .n = pt .before .before .before .before .power .ensures .0 (omega (arith, within (tableWith (a .degree) (a .n) (a .m) (a .table .now)) (pt .before .before .before .before .before .before .before .before .pre .0) .most)) in
     let o = c .before .before .goes-on .ensures .off (not-true _ (c .before .if1 .taken)) in
-    closed (quadratic (a .n) (a .m) (a .table .now)) (a .r) (a .budget) (a .list .now) (a .budget - (l .left - w .result .points)) (l .left - w .result .points) (l .at + w .result .found) (l .additions + w .result .additions) _ _ (again (quadratic (a .n) (a .m) (a .table .now)) (a .r) (a .budget) (a .list .now) (l .left) (l .at) (l .additions) (l .list) (l .s) (l .inv .0) (length (l .words)) (pt .part .result) (pt .part .last .1 .1 .1 .1 .1 .1 .0) (w .result) (pt .part .ensures .0) (pt .part .ensures .1) (w .ensures))
+    closed (tableWith (a .degree) (a .n) (a .m) (a .table .now)) (a .r) (a .budget) (a .list .now) (a .budget - (l .left - w .result .points)) (l .left - w .result .points) (l .at + w .result .found) (l .additions + w .result .additions) _ _ (again (tableWith (a .degree) (a .n) (a .m) (a .table .now)) (a .r) (a .budget) (a .list .now) (l .left) (l .at) (l .additions) (l .list) (l .s) (l .inv .0) (length (l .words)) (pt .part .result) (pt .part .last .1 .1 .1 .1 .1 .1 .1 .0) (w .result) (pt .part .ensures .0) (pt .part .ensures .1) (w .ensures))
     (c .stop-of .result) (c .stop-of .ensures ∙ ap (λ (x : ℕ). stopFrom (pt .part .result .«record» .place .0) x (l .at + w .result .found) (length (a .list .now) / 8)) e)
     (⊎-elim (λ x. inl (x ∙ e)) (λ x. inr x) o)
 
@@ -137,9 +137,9 @@ loop-less c =
     let l = pt .before .before .before .loop in
     let a = pt .before .before .before .before .before .before .before .before .args in
     let w = c .before .before .before .before .before .did in
-    let e : pt .before .before .before .before .power .result ≡ 3 ^ a .n = pt .before .before .before .before .power .ensures .0 (omega (arith, within (quadratic (a .n) (a .m) (a .table .now)) (pt .before .before .before .before .before .before .before .before .pre .0) .most)) in
+    let e : pt .before .before .before .before .power .result ≡ 3 ^ a .n = pt .before .before .before .before .power .ensures .0 (omega (arith, within (tableWith (a .degree) (a .n) (a .m) (a .table .now)) (pt .before .before .before .before .before .before .before .before .pre .0) .most)) in
     let g = c .before .goes-on .ensures .on (not-false _ (c .if1 .left)) in
-    omega (arith, moved (quadratic (a .n) (a .m) (a .table .now)) (a .r) (a .budget) (a .list .now) (a .budget - l .left) (l .left) (l .at) (l .additions) (l .list) (l .s) (l .inv .0) (length (l .words)) (pt .part .result) (pt .part .last .1 .1 .1 .1 .1 .1 .0) (w .result) (pt .part .ensures .0) (pt .part .ensures .1) (w .ensures) (l .inv .1) (λ x. g .0 (x ∙ sym e)) (g .1) (g .2), points-fit (quadratic (a .n) (a .m) (a .table .now)) (a .r) (a .budget) (a .list .now) (a .budget - l .left) (l .left) (l .at) (l .additions) (l .list) (l .s) (l .inv .0) (length (l .words)) (pt .part .result) (pt .part .last .1 .1 .1 .1 .1 .1 .0) (w .result) (pt .part .ensures .0) (pt .part .ensures .1) (w .ensures))
+    omega (arith, moved (tableWith (a .degree) (a .n) (a .m) (a .table .now)) (a .r) (a .budget) (a .list .now) (a .budget - l .left) (l .left) (l .at) (l .additions) (l .list) (l .s) (l .inv .0) (length (l .words)) (pt .part .result) (pt .part .last .1 .1 .1 .1 .1 .1 .1 .0) (w .result) (pt .part .ensures .0) (pt .part .ensures .1) (w .ensures) (l .inv .1) (λ x. g .0 (x ∙ sym e)) (g .1) (g .2), points-fit (tableWith (a .degree) (a .n) (a .m) (a .table .now)) (a .r) (a .budget) (a .list .now) (a .budget - l .left) (l .left) (l .at) (l .additions) (l .list) (l .s) (l .inv .0) (length (l .words)) (pt .part .result) (pt .part .last .1 .1 .1 .1 .1 .1 .1 .0) (w .result) (pt .part .ensures .0) (pt .part .ensures .1) (w .ensures))
 
 -- src/lib.rt:103:5
 loop-again : tie.Need-loop-again Inv-loop μ-loop
@@ -148,7 +148,7 @@ loop-again c =
     let l = pt .before .before .before .loop in
     let a = pt .before .before .before .before .before .before .before .before .args in
     let w = c .before .before .before .before .before .did in
-    (again (quadratic (a .n) (a .m) (a .table .now)) (a .r) (a .budget) (a .list .now) (l .left) (l .at) (l .additions) (l .list) (l .s) (l .inv .0) (length (l .words)) (pt .part .result) (pt .part .last .1 .1 .1 .1 .1 .1 .0) (w .result) (pt .part .ensures .0) (pt .part .ensures .1) (w .ensures), omega (arith, l .inv .1, pt .part .kept .1 .1 .1 .1 .1 .0), pt .part .kept .1 .1 .1 .1 .1 .0 ∙ l .inv .2)
+    (again (tableWith (a .degree) (a .n) (a .m) (a .table .now)) (a .r) (a .budget) (a .list .now) (l .left) (l .at) (l .additions) (l .list) (l .s) (l .inv .0) (length (l .words)) (pt .part .result) (pt .part .last .1 .1 .1 .1 .1 .1 .1 .0) (w .result) (pt .part .ensures .0) (pt .part .ensures .1) (w .ensures), omega (arith, l .inv .1, pt .part .kept .1 .1 .1 .1 .1 .1 .0), pt .part .kept .1 .1 .1 .1 .1 .1 .0 ∙ l .inv .2)
 
 pub filled-spec : {M : Type 1} → statement M
 filled-spec =
@@ -166,7 +166,7 @@ filled-spec =
     sub-goes-on
     goes-on-requires
     stop-of-requires
-    sub-t27
+    sub-points
     same-length
     same-length-2
     returns

@@ -5,7 +5,7 @@ use native.Mathlib.Omega.{arith}
 use lib.ListN.{length}
 use Rattle.search.proofs.VerdictLaw.{passed}
 use Rattle.lists.proofs.ListedLaw.{listed-refused, listed-done}
-use Rattle.given.specs.Given.{quadratic}
+use Rattle.given.specs.Given.{tableWith}
 use borrow.Author.Needs.{needs}
 use Rattle.lists.proofs.search_bytes.Statement.{statement}
 use Rattle.lists.proofs.search_bytes.Tie as tie
@@ -34,14 +34,14 @@ slice-aggregate-filled c = search needs
 filled-requires : tie.Need-filled-requires
 filled-requires c κs =
     let a = c .before .before .before .before .before .before .before .args in
-    let p = passed (quadratic (a .n) (a .m) (a .table .now)) (a .r) (a .budget) (length (a .list .now) / 8) (sym (c .before .before .before .before .judged .ensures) ∙ c .before .before .enum-told .given .1) in
+    let p = passed (tableWith (a .degree) (a .n) (a .m) (a .table .now)) (a .r) (a .budget) (length (a .list .now) / 8) (sym (c .before .before .before .before .judged .ensures) ∙ c .before .before .enum-told .given .1) in
     (p .checked, p .own, omega arith)
 
 -- src/lib.rt:131:1
 returns : tie.Need-returns
 returns c =
     let a = c .before .before .before .before .before .before .args in
-    listed-refused (quadratic (a .n) (a .m) (a .table .now)) (a .r) (a .budget) (a .list .now) _ (sym (c .before .before .before .judged .ensures) ∙ c .before .verdict .given .1)
+    listed-refused (tableWith (a .degree) (a .n) (a .m) (a .table .now)) (a .r) (a .budget) (a .list .now) _ (sym (c .before .before .before .judged .ensures) ∙ c .before .verdict .given .1)
 
 -- src/lib.rt:131:1
 same-length : tie.Need-same-length
@@ -52,7 +52,7 @@ returns-2 : tie.Need-returns-2
 returns-2 c =
     let a = c .before .before .before .before .before .before .before .before .before .before .before .args in
     let f = c .before .before .before .filled in
-    listed-done (quadratic (a .n) (a .m) (a .table .now)) (a .r) (a .budget) (a .list .now) (sym (c .before .before .before .before .before .before .before .before .judged .ensures) ∙ c .before .before .before .before .before .before .enum-told .given .1) _ _ (f .ensures .0) (f .ensures .1)
+    listed-done (tableWith (a .degree) (a .n) (a .m) (a .table .now)) (a .r) (a .budget) (a .list .now) (sym (c .before .before .before .before .before .before .before .before .judged .ensures) ∙ c .before .before .before .before .before .before .enum-told .given .1) _ _ (f .ensures .0) (f .ensures .1)
 
 pub search-bytes-spec : {M : Type 1} → statement M
 search-bytes-spec =

@@ -1,7 +1,7 @@
 -- `opening::open` meets its contract: by the verdict on the table.
 use mathlib.Core.Path.{_≡_, sym, ap, _∙_}
 use Rattle.refusals.specs.Refusal.{codeOf}
-use Rattle.given.specs.Given.{quadratic}
+use Rattle.given.specs.Given.{tableWith}
 use Rattle.opening.specs.declared.Opened.{Opened}
 use Rattle.opening.proofs.VerdictLaw.{open-refused}
 use borrow.Author.Needs.{needs}
@@ -11,7 +11,7 @@ use Rattle.opening.proofs.open.Reads as reads
 use Rattle.opening.proofs.open.Lts as lts
 use Rattle.opening.proofs.open_checked.Reads as open-checked-reads
 use Rattle.opening.proofs.refused.Reads as refused-reads
-use Rattle.tables.proofs.check.Reads as check-reads
+use Rattle.given.proofs.check.Reads as check-reads
 
 -- src/lib.rt:48:9
 check-requires : tie.Need-check-requires
@@ -37,7 +37,7 @@ open-checked-requires c κs = sym (c .before .before .check .ensures .0) ∙ c .
 returns : tie.Need-returns
 returns c =
     let s = c .before .before .before .before .before .before in
-    let e = c .refused .ensures ∙ open-refused (quadratic (s .args .n) (s .args .m) (s .args .table .now)) (s .args .place .0) _ (sym (c .before .before .before .before .check .ensures .0) ∙ c .before .before .verdict .given .1) in
+    let e = c .refused .ensures ∙ open-refused (tableWith (s .args .degree) (s .args .n) (s .args .m) (s .args .table .now)) (s .args .place .0) _ (sym (c .before .before .before .before .check .ensures .0) ∙ c .before .before .verdict .given .1) in
     (e, ap (λ (r : Opened). codeOf (r .verdict)) e)
 
 -- src/lib.rt:45:1

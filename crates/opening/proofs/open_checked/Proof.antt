@@ -2,7 +2,7 @@
 use mathlib.Core.Path.{_≡_, ap, _∙_}
 use Prim.Native.Nat.{_≤_, _<_, _^_}
 use native.Mathlib.Omega.{arith}
-use Rattle.given.specs.Given.{quadratic}
+use Rattle.given.specs.Given.{tableWith}
 use Rattle.given.proofs.TableLaw.{within}
 use Rattle.opening.proofs.VerdictLaw.{open-out, open-done}
 use borrow.Author.Needs.{needs}
@@ -26,22 +26,22 @@ refused-requires c κs = search needs
 returns : tie.Need-returns
 returns c =
     let s = c .before .before .before .before in
-    let p : c .before .before .power .result ≡ 3 ^ s .args .n = c .before .before .power .ensures .0 (omega (arith, within (quadratic (s .args .n) (s .args .m) (s .args .table .now)) (s .pre) .most)) in
-    c .refused .ensures ∙ open-out (quadratic (s .args .n) (s .args .m) (s .args .table .now)) (s .args .at) (s .pre) (omega (arith, c .before .if1 .taken))
+    let p : c .before .before .power .result ≡ 3 ^ s .args .n = c .before .before .power .ensures .0 (omega (arith, within (tableWith (s .args .degree) (s .args .n) (s .args .m) (s .args .table .now)) (s .pre) .most)) in
+    c .refused .ensures ∙ open-out (tableWith (s .args .degree) (s .args .n) (s .args .m) (s .args .table .now)) (s .args .at) (s .pre) (omega (arith, c .before .if1 .taken))
 
 -- src/lib.rt:63:9
 record-at-requires : tie.Need-record-at-requires
 record-at-requires c κs =
     let s = c .before .before .before in
-    let p : c .before .power .result ≡ 3 ^ s .args .n = c .before .power .ensures .0 (omega (arith, within (quadratic (s .args .n) (s .args .m) (s .args .table .now)) (s .pre) .most)) in
+    let p : c .before .power .result ≡ 3 ^ s .args .n = c .before .power .ensures .0 (omega (arith, within (tableWith (s .args .degree) (s .args .n) (s .args .m) (s .args .table .now)) (s .pre) .most)) in
     (s .pre, omega (arith, c .if1 .left))
 
 -- src/lib.rt:56:1
 returns-2 : tie.Need-returns-2
 returns-2 c =
     let s = c .before .before .before .before in
-    let p : c .before .before .power .result ≡ 3 ^ s .args .n = c .before .before .power .ensures .0 (omega (arith, within (quadratic (s .args .n) (s .args .m) (s .args .table .now)) (s .pre) .most)) in
-    open-done (quadratic (s .args .n) (s .args .m) (s .args .table .now)) (s .args .at) (s .pre) _ (omega (arith, c .before .if1 .left)) (c .record-at .ensures)
+    let p : c .before .before .power .result ≡ 3 ^ s .args .n = c .before .before .power .ensures .0 (omega (arith, within (tableWith (s .args .degree) (s .args .n) (s .args .m) (s .args .table .now)) (s .pre) .most)) in
+    open-done (tableWith (s .args .degree) (s .args .n) (s .args .m) (s .args .table .now)) (s .args .at) (s .pre) _ (omega (arith, c .before .if1 .left)) (c .record-at .ensures)
 
 pub open-checked-spec : {M : Type 1} → statement M
 open-checked-spec =

@@ -20,15 +20,15 @@ slice-reshare-prefix-tell c =
     let s = c .before .before .before .before .before .before .before .before .before .before .before .before in
     let a = s .args in
     let k = c .before .before .before .before .before .before .search in
-    answered (a .table .now) (a .s) (s .pre .0) (a .budget) (a .list .now) (omega (arith, s .pre .2)) (omega (arith, s .pre .3)) (k .result) _ (k .last .1 .1 .1 .1 .1 .0) (k .ensures .0) (k .ensures .1) (c .before .answer .given .1) .fits
+    answered (a .table .now) (a .s) (s .pre .0) (a .budget) (a .list .now) (omega (arith, s .pre .2)) (omega (arith, s .pre .3)) (k .result) _ (k .last .1 .1 .1 .1 .1 .1 .0) (k .ensures .0) (k .ensures .1) (c .before .answer .given .1) .fits
 
 slice-aggregate-tell : tie.Need-slice-aggregate-tell
 slice-aggregate-tell c =
     let s = c .before .before .before .before .before .before .before .before .before .before .before .before .before in
     let a = s .args in
     let k = c .before .before .before .before .before .before .before .search in
-    let i = answered (a .table .now) (a .s) (s .pre .0) (a .budget) (a .list .now) (omega (arith, s .pre .2)) (omega (arith, s .pre .3)) (k .result) _ (k .last .1 .1 .1 .1 .1 .0) (k .ensures .0) (k .ensures .1) (c .before .before .answer .given .1) in
-    sym (length-take-le _ (k .last .1 .1 .1 .1 .1 .0) (i .fits))
+    let i = answered (a .table .now) (a .s) (s .pre .0) (a .budget) (a .list .now) (omega (arith, s .pre .2)) (omega (arith, s .pre .3)) (k .result) _ (k .last .1 .1 .1 .1 .1 .1 .0) (k .ensures .0) (k .ensures .1) (c .before .before .answer .given .1) in
+    sym (length-take-le _ (k .last .1 .1 .1 .1 .1 .1 .0) (i .fits))
 
 tell-requires : tie.Need-tell-requires
 tell-requires c κs =
@@ -37,8 +37,8 @@ tell-requires c κs =
     let k = c .before .before .before .before .before .before .before .before .search in
     let some : 0 < a .budget = omega (arith, s .pre .2) in
     let room : 0 < length (a .list .now) = omega (arith, s .pre .3) in
-    let i = answered (a .table .now) (a .s) (s .pre .0) (a .budget) (a .list .now) some room (k .result) _ (k .last .1 .1 .1 .1 .1 .0) (k .ensures .0) (k .ensures .1) (c .before .before .before .answer .given .1) in
-    tellable (a .table .now) (a .s) (s .pre .0) (a .budget) (a .list .now) some room _ _ (k .last .1 .1 .1 .1 .1 .0) i (a .text .now) (s .pre .4)
+    let i = answered (a .table .now) (a .s) (s .pre .0) (a .budget) (a .list .now) some room (k .result) _ (k .last .1 .1 .1 .1 .1 .1 .0) (k .ensures .0) (k .ensures .1) (c .before .before .before .answer .given .1) in
+    tellable (a .table .now) (a .s) (s .pre .0) (a .budget) (a .list .now) some room _ _ (k .last .1 .1 .1 .1 .1 .1 .0) i (a .text .now) (s .pre .4)
 
 enum-told : tie.Need-enum-told
 enum-told c = search needs
@@ -56,10 +56,10 @@ returns c =
     let k = c .before .before .before .before .before .before .before .before .before .before .before .search in
     let some : 0 < a .budget = omega (arith, s .pre .2) in
     let room : 0 < length (a .list .now) = omega (arith, s .pre .3) in
-    let i = answered (a .table .now) (a .s) (s .pre .0) (a .budget) (a .list .now) some room (k .result) _ (k .last .1 .1 .1 .1 .1 .0) (k .ensures .0) (k .ensures .1) (c .before .before .before .before .before .before .answer .given .1) in
+    let i = answered (a .table .now) (a .s) (s .pre .0) (a .budget) (a .list .now) some room (k .result) _ (k .last .1 .1 .1 .1 .1 .1 .0) (k .ensures .0) (k .ensures .1) (c .before .before .before .before .before .before .answer .given .1) in
     let t = c .before .before .tell in (
-      went (a .table .now) (a .s) (s .pre .0) (a .budget) (a .list .now) some room _ _ (k .last .1 .1 .1 .1 .1 .0) i (a .text .now) (t .last .1 .1 .1 .1 .0) (t .result) (t .ensures) (s .pre .1),
-      stepped (a .table .now) (a .s) (s .pre .0) (a .budget) (a .list .now) some room _ _ (k .last .1 .1 .1 .1 .1 .0) i (a .text .now) (t .last .1 .1 .1 .1 .0) (t .result) (t .ensures),
+      went (a .table .now) (a .s) (s .pre .0) (a .budget) (a .list .now) some room _ _ (k .last .1 .1 .1 .1 .1 .1 .0) i (a .text .now) (t .last .1 .1 .1 .1 .0) (t .result) (t .ensures) (s .pre .1),
+      stepped (a .table .now) (a .s) (s .pre .0) (a .budget) (a .list .now) some room _ _ (k .last .1 .1 .1 .1 .1 .1 .0) i (a .text .now) (t .last .1 .1 .1 .1 .0) (t .result) (t .ensures),
     )
 
 same-length-3 : tie.Need-same-length-3

@@ -1,6 +1,7 @@
--- `wire::read_record` meets its contract: decoded, and then read.
-use mathlib.Core.Path.{ap, _∙_}
-use Rattle.wire.specs.Wire.{recordOf}
+-- `wire::read_record` meets its contract: both parts decoded, and then read.
+use mathlib.Core.Path.{ap₂, _∙_}
+use Rattle.wire.specs.Wire.{recordWith}
+use Rattle.wire.proofs.WireLaw.{read-parts}
 use borrow.Author.Needs.{needs}
 use Rattle.wire.proofs.read_record.Statement.{statement}
 use Rattle.wire.proofs.read_record.Tie as tie
@@ -15,6 +16,21 @@ slice-aggregate-decode c = search needs
 decode-requires : tie.Need-decode-requires
 decode-requires c κs = search needs
 
+sub-decode : tie.Need-sub-decode
+sub-decode c = search needs
+
+part-decode-start : tie.Need-part-decode-start
+part-decode-start c = search needs
+
+part-decode-end : tie.Need-part-decode-end
+part-decode-end c = search needs
+
+slice-aggregate-decode-2 : tie.Need-slice-aggregate-decode-2
+slice-aggregate-decode-2 c = search needs
+
+decode-requires-2 : tie.Need-decode-requires-2
+decode-requires-2 c κs = search needs
+
 slice-aggregate-record-of : tie.Need-slice-aggregate-record-of
 slice-aggregate-record-of c = search needs
 
@@ -22,7 +38,9 @@ record-of-requires : tie.Need-record-of-requires
 record-of-requires c κs = search needs
 
 returns : tie.Need-returns
-returns c = c .record-of .ensures ∙ ap recordOf (c .before .before .before .decode .ensures)
+returns c =
+    let b = c .before .before .before .before .before .before .before .before .before .before .args .b .now in
+    c .record-of .ensures ∙ ap₂ recordWith (c .before .before .before .before .before .before .before .decode .ensures) (c .before .before .before .decode2 .ensures) ∙ read-parts b
 
 pub read-record-spec : {M : Type 1} → statement M
 read-record-spec =
@@ -30,6 +48,11 @@ read-record-spec =
     (tie.spec
     slice-aggregate-decode
     decode-requires
+    sub-decode
+    part-decode-start
+    part-decode-end
+    slice-aggregate-decode-2
+    decode-requires-2
     slice-aggregate-record-of
     record-of-requires
     returns)

@@ -3,7 +3,7 @@ use mathlib.Core.Path.{sym, _∙_}
 use borrow.Author.Tests.{not-true, not-false}
 use Rattle.search.proofs.VerdictLaw.{by-record, by-budget, by-list, by-none}
 use borrow.Author.Needs.{needs}
-use Rattle.given.specs.Given.{quadratic}
+use Rattle.given.specs.Given.{tableWith}
 use Rattle.search.proofs.calls.judged_checked.Statement.{statement}
 use Rattle.search.proofs.calls.judged_checked.Tie as tie
 use Rattle.search.proofs.calls.judged_checked.Reads as reads
@@ -18,25 +18,25 @@ fits-table-requires c κs = search needs
 returns : tie.Need-returns
 returns c =
     let s = c .before .before .before in
-    by-record (quadratic (s .args .n) (s .args .m) (s .args .table .now)) (s .args .r) (s .args .budget) (s .args .room) (s .pre) (sym (c .before .fits-table .ensures) ∙ not-true _ (c .if1 .taken))
+    by-record (tableWith (s .args .degree) (s .args .n) (s .args .m) (s .args .table .now)) (s .args .r) (s .args .budget) (s .args .room) (s .pre) (sym (c .before .fits-table .ensures) ∙ not-true _ (c .if1 .taken))
 
 -- src/calls.rt:116:9
 returns-2 : tie.Need-returns-2
 returns-2 c =
     let s = c .before .before .before .before in
-    by-budget (quadratic (s .args .n) (s .args .m) (s .args .table .now)) (s .args .r) (s .args .budget) (s .args .room) (s .pre) (sym (c .before .before .fits-table .ensures) ∙ not-false _ (c .before .if1 .left)) (c .if2 .taken)
+    by-budget (tableWith (s .args .degree) (s .args .n) (s .args .m) (s .args .table .now)) (s .args .r) (s .args .budget) (s .args .room) (s .pre) (sym (c .before .before .fits-table .ensures) ∙ not-false _ (c .before .if1 .left)) (c .if2 .taken)
 
 -- src/calls.rt:119:9
 returns-3 : tie.Need-returns-3
 returns-3 c =
     let s = c .before .before .before .before .before in
-    by-list (quadratic (s .args .n) (s .args .m) (s .args .table .now)) (s .args .r) (s .args .budget) (s .args .room) (s .pre) (sym (c .before .before .before .fits-table .ensures) ∙ not-false _ (c .before .before .if1 .left)) (c .before .if2 .left) (c .if3 .taken)
+    by-list (tableWith (s .args .degree) (s .args .n) (s .args .m) (s .args .table .now)) (s .args .r) (s .args .budget) (s .args .room) (s .pre) (sym (c .before .before .before .fits-table .ensures) ∙ not-false _ (c .before .before .if1 .left)) (c .before .if2 .left) (c .if3 .taken)
 
 -- src/calls.rt:108:1
 returns-4 : tie.Need-returns-4
 returns-4 c =
     let s = c .before .before .before .before .before in
-    by-none (quadratic (s .args .n) (s .args .m) (s .args .table .now)) (s .args .r) (s .args .budget) (s .args .room) (s .pre) (sym (c .before .before .before .fits-table .ensures) ∙ not-false _ (c .before .before .if1 .left)) (c .before .if2 .left) (c .if3 .left)
+    by-none (tableWith (s .args .degree) (s .args .n) (s .args .m) (s .args .table .now)) (s .args .r) (s .args .budget) (s .args .room) (s .pre) (sym (c .before .before .before .fits-table .ensures) ∙ not-false _ (c .before .before .if1 .left)) (c .before .if2 .left) (c .if3 .left)
 
 pub judged-checked-spec : {M : Type 1} → statement M
 judged-checked-spec =

@@ -11,23 +11,23 @@ use Rattle.search.proofs.calls.reported.Reads as reads
 use Rattle.search.proofs.calls.reported.Lts as lts
 use Rattle.search.proofs.calls.stop_of.Reads as stop-of-reads
 
--- src/calls.rt:54:9
+-- src/calls.rt:56:9
 stop-of-requires : tie.Need-stop-of-requires
 stop-of-requires c κs = search needs
 
--- src/calls.rt:59:25
-sub-t12 : tie.Need-sub-t12
-sub-t12 c = search needs
+-- src/calls.rt:60:21
+sub-t8 : tie.Need-sub-t8
+sub-t8 c = search needs
 
--- src/calls.rt:46:1
+-- src/calls.rt:50:1
 returns : tie.Need-returns
 returns c =
-    let a = c .before .before .before .before .args in
+    let a = c .before .before .args in
     let x = a .t in
     ap (λ (s : Stop). record {
-      answer = answer.Ran (record { stop = s; points = x .walker .place - a .from; additions = x .additions; found = x .found });
-      «record» = record { n = a .n; m = a .m; place = record { 0 = x .walker .place }; value = x .walker .value; slots = x .walker .slots };
+      answer = answer.Ran (record { stop = s; points = x .«record» .place .0 - a .from; additions = x .additions; found = x .found });
+      «record» = x .«record»;
     }) (c .stop-of .ensures)
 
 pub reported-spec : {M : Type 1} → statement M
-reported-spec = tie.close (tie.spec stop-of-requires sub-t12 returns)
+reported-spec = tie.close (tie.spec stop-of-requires sub-t8 returns)

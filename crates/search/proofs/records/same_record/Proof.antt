@@ -2,7 +2,7 @@
 use mathlib.Core.Path.{_≡_, refl, sym, ap, _∙_}
 use mathlib.Core.Bool.{Bool, true, false}
 use borrow.Author.Tests.{eq-eqb, ne-eqb, not-true, not-false}
-use Rattle.search.specs.Search.{sameVector, sameRecord}
+use Rattle.search.specs.Search.{sameVector, sameList, sameRecord}
 use borrow.Author.Needs.{needs}
 use Rattle.search.proofs.records.same_record.Statement.{statement}
 use Rattle.search.proofs.records.same_record.Tie as tie
@@ -10,6 +10,7 @@ use Rattle.search.proofs.records.same_record.Reads as reads
 use Rattle.search.proofs.records.same_record.Lts as lts
 use Rattle.search.proofs.records.same_slots.Reads as same-slots-reads
 use Rattle.search.proofs.records.same_vector.Reads as same-vector-reads
+use Rattle.search.proofs.records.same_seconds.Reads as same-seconds-reads
 
 -- src/records.rt:36:9
 returns : tie.Need-returns
@@ -42,13 +43,24 @@ returns-4 c =
 same-slots-requires : tie.Need-same-slots-requires
 same-slots-requires c κs = search needs
 
--- src/records.rt:32:1
 returns-5 : tie.Need-returns-5
 unfolding sameRecord
 returns-5 c =
-    let a = c .before .before .before .before .before .before .before .before .before .before .before .before .before .before .before .before .args in
-    let e : sameVector (a .a .value) (a .b .value) ≡ true = sym (c .before .before .before .before .same-vector .ensures) ∙ not-false _ (c .before .before .before .if4 .left) in
-    rw (eq-eqb _ _ (c .before .before .before .before .before .before .before .before .before .before .before .before .before .if1 .left), eq-eqb _ _ (c .before .before .before .before .before .before .before .before .before .before .if2 .left), eq-eqb _ _ (c .before .before .before .before .before .before .before .if3 .left), e) (c .same-slots .ensures)
+    let a = c .before .before .before .before .before .before .before .before .before .before .before .before .before .before .before .before .before .args in
+    let e4 : sameVector (a .a .value) (a .b .value) ≡ true = sym (c .before .before .before .before .before .same-vector .ensures) ∙ not-false _ (c .before .before .before .before .if4 .left) in
+    let e5 : sameList sameVector (a .a .slots) (a .b .slots) ≡ false = sym (c .before .same-slots .ensures) ∙ not-true _ (c .if5 .taken) in
+    rw (eq-eqb _ _ (c .before .before .before .before .before .before .before .before .before .before .before .before .before .before .if1 .left), eq-eqb _ _ (c .before .before .before .before .before .before .before .before .before .before .before .if2 .left), eq-eqb _ _ (c .before .before .before .before .before .before .before .before .if3 .left), e4, e5)
+
+same-seconds-requires : tie.Need-same-seconds-requires
+same-seconds-requires c κs = search needs
+
+returns-6 : tie.Need-returns-6
+unfolding sameRecord
+returns-6 c =
+    let a = c .before .before .before .before .before .before .before .before .before .before .before .before .before .before .before .before .before .before .before .before .args in
+    let e4 : sameVector (a .a .value) (a .b .value) ≡ true = sym (c .before .before .before .before .before .before .before .before .same-vector .ensures) ∙ not-false _ (c .before .before .before .before .before .before .before .if4 .left) in
+    let e5 : sameList sameVector (a .a .slots) (a .b .slots) ≡ true = sym (c .before .before .before .before .same-slots .ensures) ∙ not-false _ (c .before .before .before .if5 .left) in
+    rw (eq-eqb _ _ (c .before .before .before .before .before .before .before .before .before .before .before .before .before .before .before .before .before .if1 .left), eq-eqb _ _ (c .before .before .before .before .before .before .before .before .before .before .before .before .before .before .if2 .left), eq-eqb _ _ (c .before .before .before .before .before .before .before .before .before .before .before .if3 .left), e4, e5) (c .same-seconds .ensures)
 
 pub same-record-spec : {M : Type 1} → statement M
 same-record-spec =
@@ -60,4 +72,6 @@ same-record-spec =
     same-vector-requires
     returns-4
     same-slots-requires
-    returns-5)
+    returns-5
+    same-seconds-requires
+    returns-6)

@@ -5,7 +5,8 @@ use native.Mathlib.Omega.{arith}
 use borrow.Author.Needs.{needs}
 use borrow.Author.Tests.{not-true, not-false}
 use lib.ListN.{length, drop}
-use Rattle.search.specs.Search.{sameVector, sameVectors}
+use Rattle.trits.specs.Trit.{none}
+use Rattle.search.specs.Search.{sameVector, sameList}
 use Rattle.search.proofs.RecordLaw.{same-stop, same-go, same-end}
 use Rattle.search.proofs.records.same_slots.Statement.{statement}
 use Rattle.search.proofs.records.same_slots.Tie as tie
@@ -14,7 +15,7 @@ use Rattle.search.proofs.records.same_slots.Lts as lts
 use Rattle.search.proofs.records.same_vector.Reads as same-vector-reads
 
 abbrev Inv-loop : tie.InvT-loop
-Inv-loop a b i₀ i = (i ≤ 20) × (length a ≡ 20) × (length b ≡ 20) × (sameVectors (drop i a) (drop i b) ≡ sameVectors a b)
+Inv-loop a b i₀ i = (i ≤ 20) × (length a ≡ 20) × (length b ≡ 20) × (sameList sameVector (drop i a) (drop i b) ≡ sameList sameVector a b)
 
 abbrev μ-loop : tie.MeasureT-loop
 μ-loop a b i₀ i = 20 - i
@@ -48,7 +49,7 @@ returns : tie.Need-returns Inv-loop μ-loop
 returns c =
     let a = c .before .before .before .before .before .before .args in
     let l = c .before .before .before .before .before .loop in
-    same-stop (a .t1) (a .t2) (l .i) (omega (arith, l .inv .1)) (omega (arith, l .inv .2)) _ (c .before .same-vector .ensures) _ (l .inv .3) (not-true _ (c .if1 .taken))
+    same-stop sameVector none (a .t1) (a .t2) (l .i) (omega (arith, l .inv .1)) (omega (arith, l .inv .2)) _ (c .before .same-vector .ensures) _ (l .inv .3) (not-true _ (c .if1 .taken))
 
 -- src/records.rt:26:9
 add-i : tie.Need-add-i Inv-loop μ-loop
@@ -63,14 +64,14 @@ loop-again : tie.Need-loop-again Inv-loop μ-loop
 loop-again c =
     let a = c .before .before .before .before .before .before .args in
     let l = c .before .before .before .before .before .loop in
-    (omega (arith, c .before .before .before .before .loop-test .taken), l .inv .1, l .inv .2, same-go (a .t1) (a .t2) (l .i) (omega (arith, l .inv .1)) (omega (arith, l .inv .2)) _ (c .before .same-vector .ensures) _ (l .inv .3) (not-false _ (c .if1 .left)))
+    (omega (arith, c .before .before .before .before .loop-test .taken), l .inv .1, l .inv .2, same-go sameVector none (a .t1) (a .t2) (l .i) (omega (arith, l .inv .1)) (omega (arith, l .inv .2)) _ (c .before .same-vector .ensures) _ (l .inv .3) (not-false _ (c .if1 .left)))
 
 -- src/records.rt:16:1
 returns-2 : tie.Need-returns-2 Inv-loop μ-loop
 returns-2 c =
     let a = c .before .before .args in
     let l = c .before .loop in
-    sym (same-end (a .t1) (a .t2) (l .i) (omega (arith, l .inv .1, c .loop-test .left)) (omega (arith, l .inv .2, c .loop-test .left))) ∙ l .inv .3
+    sym (same-end sameVector none (a .t1) (a .t2) (l .i) (omega (arith, l .inv .1, c .loop-test .left)) (omega (arith, l .inv .2, c .loop-test .left))) ∙ l .inv .3
 
 pub same-slots-spec : {M : Type 1} → statement M
 same-slots-spec =

@@ -1,0 +1,3 @@
+pub mod WeightLaw
+pub mod RowLaw
+pub mod SlotLaw

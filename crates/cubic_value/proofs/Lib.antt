@@ -1,0 +1,2 @@
+pub mod ShareLaw
+pub mod SumLaw

@@ -1,0 +1,2 @@
+pub mod CountedLaw
+pub mod FilledLaw
