@@ -1,10 +1,8 @@
 -- The value of a cubic as the code sums it: the products of each pair, the pairs of each unknown, the unknowns.
 use mathlib.Core.Path.{_≡_, refl, sym, ap, ap₂, _∙_}
-use mathlib.Core.Logic.{by-cases}
 use mathlib.Core.List.{List}
 use Prim.Native.Nat.{ℕ, zero, suc, _+_, _-_, _*_, _%_, _^_, _≤_, _<_}
 use native.Mathlib.Numerals.{add-one}
-use native.Mathlib.Decide.{ℕ-discrete}
 use native.Mathlib.Omega.{arith}
 use lib.ListN.{length, getD}
 use Rattle.residues.specs.Sums.{sum}
@@ -24,7 +22,7 @@ use Rattle.evaluation.proofs.EvaluateLaw.{rowsPart, rows-whole}
 use Rattle.cubics.specs.Cubic.{Cubic, lowOf, cubesOf, cubicOf}
 use Rattle.cubics.proofs.CubicLaw.{ext-cubic, cubic-below}
 use Rattle.listed.specs.Lists.{Lists, Rising}
-use Rattle.listed.proofs.ListLaw.{sum-still, sum-listed}
+use Rattle.listed.proofs.ListLaw.{sum-listed, sum-from-none, none-begun, pair-order}
 use Rattle.cubic_tables.specs.Order.{cubicCount, tripleIndex, keyOf}
 use Rattle.cubic_tables.specs.Words.{CubicTable, cubicAt, cubicValues}
 use Rattle.cubic_tables.proofs.OrderLaw.{pair-is, index-base, triple-lt}
@@ -43,10 +41,6 @@ pub pair-number : (n j r : ℕ) → r ≡ indexOf n j j → r - n - 1 ≡ rowSta
 pair-number n j r e = omega (arith, pair-is n j j)
 
 -- ---- nothing is summed before the first unknown of a cell: of i, i, i there is none
-pub none-begun : (a : ℕ) (H : ℕ → ℕ) → sum (a - a) H ≡ 0
-unfolding sum
-none-begun a H = let z : a - a ≡ 0 = omega arith in ap (λ (k : ℕ). sum k H) z
-
 pub square-begun : (n : ℕ) (x : ℕ → ℕ) (at turn : List ℕ) (c : ℕ) → Lists n x at turn c → (t : ℕ) → t < c → (f : Cubic) → f .cube (getD at t 0) (getD at t 0) (getD at t 0) ≡ 0
     → sum (getD at (t + 1) 0 - getD at t 0) (λ d. f .cube (getD at t 0) (getD at t 0) (getD at t 0 + d) * x (getD at t 0 + d)) ≡ 0
 square-begun n x at turn c g t l f z =
@@ -106,18 +100,13 @@ module _ (f : Cubic) (n : ℕ) (x : ℕ → ℕ) where
   pub value-whole : f .const + sum (n - 0) (λ d. planeSum f n (0 + d) x * x (0 + d)) ≡ cubicOf f n x
   unfolding cubicOf cubesOf rowsPart
   value-whole =
-      let z : n - 0 ≡ n = omega arith in
       ap (λ (y : ℕ). f .const + y)
-      (ap (λ (k : ℕ). sum k (λ d. planeSum f n (0 + d) x * x (0 + d))) z
-      ∙ sum-ext n _ (λ i. rowOf (lowOf f) n i x * x i + upper i * x i) (λ i l.
-      ap (λ (k : ℕ). planeSum f n k x * x k) (zero-left i) ∙ ap (λ (y : ℕ). y * x i) (plane-split i) ∙ both (rowOf (lowOf f) n i x) (upper i) (x i))
+      (sum-from-none n (λ i. planeSum f n i x * x i)
+      ∙ sum-ext n _ (λ i. rowOf (lowOf f) n i x * x i + upper i * x i) (λ i l. ap (λ (y : ℕ). y * x i) (plane-split i) ∙ both (rowOf (lowOf f) n i x) (upper i) (x i))
       ∙ sum-add n (λ i. rowOf (lowOf f) n i x * x i) (λ i. upper i * x i))
       ∙ group (f .const) (sum n (λ i. rowOf (lowOf f) n i x * x i)) (sum n (λ i. upper i * x i))
       ∙ ap₂ (λ (a b : ℕ). a + b) (rows-whole (lowOf f) n x) (sum-ext n _ _ (λ i l. upper-is i))
     where
-      zero-left : (y : ℕ) → 0 + y ≡ y
-      zero-left y = omega arith
-
       both : (a b c : ℕ) → (a + b) * c ≡ a * c + b * c
       both a b c = omega arith
 
@@ -135,12 +124,6 @@ values-are n m t x d h =
     of-ext m (λ e. cubicOf (cubicAt n t e) n d) (λ e. cubicOf (cubicAt n t e) n (digit 3 x)) (λ e l. ap (λ (y : ℕ). y % 3) (cubic-below (cubicAt n t e) n d (digit 3 x) h))
 
 -- ---- what the code asks
-pub pair-order : (n : ℕ) (at : List ℕ) (c s t : ℕ) → Rising n at c → s ≤ t → t < c → (getD at s 0 ≤ getD at t 0) × (getD at t 0 < n)
-pair-order n at c s t r l m =
-    by-cases (ℕ-discrete s t)
-    (λ (e : s ≡ t). let k : getD at s 0 ≡ getD at t 0 = ap (λ (y : ℕ). getD at y 0) e in (omega arith, r .below t m))
-    (λ e. let k = r .rise s t (omega arith) m in (omega arith, r .below t m))
-
 -- the unknowns after number t of the list come after i, number s: from t on where s is before it, from t + 1 on where they are the same
 pub later-same : (n : ℕ) (at : List ℕ) (c s t : ℕ) → Rising n at c → s ≡ t → (u : ℕ) → t + 1 ≤ u → u < c → (getD at t 0 ≤ getD at u 0) × (getD at s 0 < getD at u 0)
 later-same n at c s t r e u l m =
@@ -190,14 +173,3 @@ plane-sum m n i F x v h = h
 pub whole-sum : (m n : ℕ) (F : ℕ → Cubic) (x : ℕ → ℕ) (v : Vector) → Holds m (λ e. F e .const + sum (n - 0) (λ d. planeSum (F e) n (0 + d) x * x (0 + d))) v
     → Holds m (λ e. cubicOf (F e) n x) v
 whole-sum m n F x v h = holds-ext (λ e l. ap (λ (y : ℕ). y % 3) (value-whole (F e) n x)) h
-
--- the unknowns before the first listed one are 0
-pub first-begun : (n : ℕ) (x : ℕ → ℕ) (at turn : List ℕ) (c : ℕ) → Lists n x at turn c → (h : ℕ → ℕ) → sum (getD at 0 0 - 0) (λ d. h (0 + d) * x (0 + d)) ≡ 0
-unfolding sum
-first-begun n x at turn c g h =
-    let z : getD at 0 0 - 0 ≡ 0 + getD at 0 0 = omega arith in
-    ap (λ (k : ℕ). sum k (λ d. h (0 + d) * x (0 + d))) z
-    ∙ sum-still 0 (getD at 0 0) (λ d. h (0 + d) * x (0 + d)) (λ d l o. ap (λ (y : ℕ). h (0 + d) * y) (g .first (0 + d) (omega arith)) ∙ nought (h (0 + d)))
-  where
-    nought : (y : ℕ) → y * 0 ≡ 0
-    nought y = omega arith

@@ -4,7 +4,7 @@ use cubic_tables::check;
 use cubic_tables::key;
 use evaluation::digits;
 use gray::Point;
-use listed::nonzero;
+use listed::nonzero_into;
 use listed::row;
 use listed::turned;
 use positions::power;
@@ -106,10 +106,10 @@ pub fn value_at(table: &[u64], n: usize, x: &[u64; MOST_UNKNOWNS]) -> Vector
     requires { ⌜ (n ≤ mostUnknowns) × (length (now table) ≡ 2 * cubicCount n) ⌝ }
     ensures { λ r. ⌜ ((m : ℕ) → CubicTable n m (now (table .entry)) → r ≡ ofTrits m (λ e. cubicOf (cubicAt n (now (table .entry)) e) n (λ k. getD (now (x .entry)) k 0))) ⌝ }
 {
-    let l = nonzero(n, x);
-    let at = l.at;
-    let turn = l.turn;
-    value_of(table, n, &at, &turn, l.count)
+    let mut at = [0usize; 21];
+    let mut turn = [0u64; MOST_UNKNOWNS];
+    let count = nonzero_into(n, x, &mut at, &mut turn);
+    value_of(table, n, &at, &turn, count)
 }
 
 // The value of each equation at a point.

@@ -1,8 +1,8 @@
 -- The value of a system as the code sums it: row by row, each row at the digits of its unknowns, then times its own unknown.
-use mathlib.Core.Path.{_≡_, refl, sym, ap, ap₂, _∙_}
+use mathlib.Core.Path.{_≡_, sym, ap, _∙_}
 use mathlib.Core.List.{List}
 use mathlib.Core.Logic.{by-cases}
-use Prim.Native.Nat.{ℕ, zero, suc, _+_, _-_, _*_, _/_, _%_, _^_, _≤_, _<_}
+use Prim.Native.Nat.{ℕ, _+_, _-_, _*_, _/_, _%_, _^_, _≤_, _<_}
 use native.Mathlib.Nat.{div-one, div-div-eq-div-mul, mul-comm, pow-succ'}
 use native.Mathlib.Numerals.{add-one}
 use native.Mathlib.Decide.{ℕ-discrete}
@@ -10,19 +10,23 @@ use native.Mathlib.Omega.{arith}
 use lib.ListN.{length, getD, set}
 use lib.Seq.{getD-set-same, getD-set-other}
 use Rattle.residues.specs.Sums.{sum}
+use Rattle.residues.proofs.ModLaw.{cdrop}
 use Rattle.residues.proofs.SumLaw.{sum-ext, sum-add, sum-scale}
 use Rattle.trits.specs.declared.Vector.{Vector}
-use Rattle.trits.specs.Trit.{trit, ofTrits}
-use Rattle.trits.specs.Words.{Added, Scaled}
+use Rattle.trits.specs.Trit.{Holds, ofTrits}
 use Rattle.trits.proofs.ExtLaw.{of-ext}
+use Rattle.trits.proofs.HoldLaw.{holds-is, is-holds, holds-ext}
 use Rattle.gray.specs.Numbers.{digit}
 use Rattle.polynomials.specs.Poly.{Poly, valueOf}
+use Rattle.polynomials.proofs.TermsLaw.{ext-value}
 use Rattle.polynomials.proofs.PolyLaw.{value-ext}
+use Rattle.listed.specs.Lists.{Rising}
+use Rattle.listed.proofs.ListLaw.{sum-from-none, pair-order}
 use Rattle.tables.specs.Monomials.{countOf, indexOf}
 use Rattle.tables.specs.Words.{entry, Table, polyAt, valuesAt}
 use Rattle.evaluation.specs.Parts.{rowOf}
 use Rattle.tables.proofs.IndexLaw.{index-lt, count-is}
-use Rattle.tables.proofs.VectorLaw.{of-self, of-add, of-times}
+use Rattle.tables.proofs.VectorLaw.{of-self}
 use Rattle.tables.proofs.WriteLaw.{row-entry}
 
 -- ---- the digits, one after the other
@@ -40,38 +44,38 @@ digits-next x r k rest h e below j l =
     (λ z. ap (λ (y : ℕ). getD (set r k (rest % 3)) y 0) z ∙ getD-set-same r k (rest % 3) 0 h ∙ ap (λ (y : ℕ). y % 3) e ∙ ap (λ (y : ℕ). x / 3 ^ y % 3) (sym z))
     (λ d. getD-set-other r k j (rest % 3) 0 d ∙ below j (omega arith))
 
--- ---- the row of unknown i, its first d products
-unfoldable pub rowPart : Poly → ℕ → ℕ → (ℕ → ℕ) → ℕ
-rowPart f i d x = f .lin i + sum d (λ k. f .quad i (i + k) * x (i + k))
+-- ---- the entries hold the coefficients
+module _ (n m : ℕ) (t : List ℕ) (table : Table n m t) where
+  pub const-holds : Holds m (λ e. polyAt n t e .const) (entry t 0)
+  unfolding polyAt
+  const-holds = is-holds (of-self m (entry t 0) (table .legal 0 (omega (arith, count-is n))))
 
-pub row-done : (m n i j : ℕ) (F : ℕ → Poly) (x : ℕ → ℕ) → j ≡ n → ofTrits m (λ e. rowPart (F e) i (j - i) x) ≡ ofTrits m (λ e. rowOf (F e) n i x)
-unfolding rowPart rowOf
-row-done m n i j F x h = rw h
+  pub lin-holds : (i : ℕ) → i < n → Holds m (λ e. polyAt n t e .lin i) (entry t (1 + i))
+  unfolding polyAt
+  lin-holds i h = is-holds (of-self m (entry t (1 + i)) (table .legal (1 + i) (omega (arith, count-is n))))
 
-module _ (n m i : ℕ) (t : List ℕ) (x : ℕ → ℕ) (table : Table n m t) (h : i < n) where
-  pub row-none : (v : Vector) → v ≡ entry t (1 + i) → v ≡ ofTrits m (λ e. rowPart (polyAt n t e) i (i - i) x)
-  unfolding rowPart polyAt sum
-  row-none v p =
-      let z : i - i ≡ 0 = omega arith in
-      p ∙ of-self m (entry t (1 + i)) (table .legal (1 + i) (omega (arith, count-is n)))
-      ∙ rw z (of-ext m (trit (entry t (1 + i))) (λ e. trit (entry t (1 + i)) e + 0) (λ e l. ap (λ (y : ℕ). y % 3) (none (trit (entry t (1 + i)) e))))
-    where
-      none : (y : ℕ) → y ≡ y + 0
-      none y = omega arith
+  pub quad-holds : (i j : ℕ) → i ≤ j → j < n → Holds m (λ e. polyAt n t e .quad i j) (entry t (indexOf n i j))
+  unfolding polyAt
+  quad-holds i j h l = is-holds (of-self m (entry t (indexOf n i j)) (table .legal (indexOf n i j) (index-lt n i j h l)))
 
-  pub row-more : (j k : ℕ) → i ≤ j → j < n → k ≡ indexOf n i i + (j - i) → (u v w r : Vector) → u ≡ ofTrits m (λ e. rowPart (polyAt n t e) i (j - i) x)
-      → v ≡ entry t k → Scaled v (x j) w → Added u w r → r ≡ ofTrits m (λ e. rowPart (polyAt n t e) i (j + 1 - i) x)
-  unfolding rowPart polyAt sum
-  row-more j k p q z u v w r a b s d =
-      let y : k ≡ indexOf n i j = z ∙ sym (row-entry n i j p) in
-      let o : j + 1 - i ≡ suc (j - i) = omega arith in
-      let g : i + (j - i) ≡ j = omega arith in
-      let l = of-times m (trit (entry t (indexOf n i j))) (x j) v w (b ∙ ap (entry t) y ∙ of-self m (entry t (indexOf n i j)) (table .legal (indexOf n i j) (index-lt n i j p q))) s in
-      of-add m (λ e. rowPart (polyAt n t e) i (j - i) x) (λ e. trit (entry t (indexOf n i j)) e * x j) u w r a l d
-      ∙ rw (o, sum, g) (of-ext m _ _ (λ e f. ap (λ (y : ℕ). y % 3) (left (trit (entry t (1 + i)) e) (sum (j - i) (λ k. trit (entry t (indexOf n i (i + k))) e * x (i + k))) (trit (entry t (indexOf n i j)) e * x j))))
-    where
-      left : (a b c : ℕ) → a + b + c ≡ a + (b + c)
-      left a b c = omega arith
+pub index-ge : (n i : ℕ) → i < n → i ≤ indexOf n i i
+unfolding indexOf
+index-ge n i h = omega arith
+
+-- ---- where the products of i stand: b is the number that the code works out
+pub base-at : (n i k b r : ℕ) → i < n → i ≤ k → r ≡ indexOf n i i → b ≡ r - i → b + k ≡ indexOf n i k
+base-at n i k b r s h e f = let g = index-ge n i s in let o = row-entry n i k h in omega arith
+
+pub row-room : (n len b r c from : ℕ) (at : List ℕ) → Rising n at c → n ≤ 20 → from < c → r ≡ indexOf n (getD at from 0) (getD at from 0) → b ≡ r - getD at from 0 → len ≡ 2 * countOf n
+    → (u : ℕ) → from ≤ u → u < c → (getD at u 0 < 2 ^ 32) × (2 * (b + getD at u 0) + 1 < len)
+row-room n len b r c from at w small h e f g u l m =
+    let o = pair-order n at c from u w l m in
+    let k = base-at n (getD at from 0) (getD at u 0) b r (w .below from h) (o .0) e f in
+    let i = index-lt n (getD at from 0) (getD at u 0) (o .0) (o .1) in
+    (omega arith, omega arith)
+
+pub row-holds : (n m : ℕ) (t : List ℕ) → Table n m t → (i k b r : ℕ) → i ≤ k → k < n → r ≡ indexOf n i i → b ≡ r - i → Holds m (λ e. polyAt n t e .quad i k) (entry t (b + k))
+row-holds n m t w i k b r h l e f = rw (base-at n i k b r (omega arith) h e f) (quad-holds n m t w i k h l)
 
 -- ---- the rows, each times its unknown
 unfoldable pub rowsPart : Poly → ℕ → ℕ → (ℕ → ℕ) → ℕ
@@ -97,29 +101,20 @@ rows-whole f n x =
     left : (a b c : ℕ) → a + (b + c) ≡ a + b + c
     left a b c = omega arith
 
-module _ (n m : ℕ) (t : List ℕ) (x : ℕ → ℕ) (table : Table n m t) where
-  pub rows-none : (v : Vector) → v ≡ entry t 0 → v ≡ ofTrits m (λ e. rowsPart (polyAt n t e) n 0 x)
-  unfolding rowsPart polyAt sum
-  rows-none v p =
-      p ∙ of-self m (entry t 0) (table .legal 0 (omega (arith, count-is n)))
-      ∙ of-ext m (trit (entry t 0)) (λ e. trit (entry t 0) e + 0) (λ e l. ap (λ (y : ℕ). y % 3) (none (trit (entry t 0) e)))
-    where
-      none : (y : ℕ) → y ≡ y + 0
-      none y = omega arith
+pub row-sum : (m n i : ℕ) (F : ℕ → Poly) (x : ℕ → ℕ) (v : Vector) → Holds m (λ e. F e .lin i + sum (n - i) (λ d. F e .quad i (i + d) * x (i + d))) v
+    → Holds m (λ e. rowOf (F e) n i x) v
+unfolding rowOf
+row-sum m n i F x v h = h
 
-  pub rows-more : (i : ℕ) (u v w r : Vector) → u ≡ ofTrits m (λ e. rowsPart (polyAt n t e) n i x) → v ≡ ofTrits m (λ e. rowOf (polyAt n t e) n i x)
-      → Scaled v (x i) w → Added u w r → r ≡ ofTrits m (λ e. rowsPart (polyAt n t e) n (i + 1) x)
-  unfolding rowsPart sum
-  rows-more i u v w r a b s d =
-      let o : i + 1 ≡ suc i = omega arith in
-      of-add m (λ e. rowsPart (polyAt n t e) n i x) (λ e. rowOf (polyAt n t e) n i x * x i) u w r a (of-times m (λ e. rowOf (polyAt n t e) n i x) (x i) v w b s) d
-      ∙ rw (o, sum) (of-ext m _ _ (λ e l. ap (λ (y : ℕ). y % 3) (left (polyAt n t e .const) (sum i (λ k. rowOf (polyAt n t e) n k x * x k)) (rowOf (polyAt n t e) n i x * x i))))
-    where
-      left : (a b c : ℕ) → a + b + c ≡ a + (b + c)
-      left a b c = omega arith
+pub whole-sum : (m n : ℕ) (F : ℕ → Poly) (x : ℕ → ℕ) (v : Vector) → Holds m (λ e. F e .const + sum (n - 0) (λ d. rowOf (F e) n (0 + d) x * x (0 + d))) v
+    → Holds m (λ e. valueOf (F e) n x) v
+unfolding rowsPart
+whole-sum m n F x v h =
+    holds-ext (λ e l. ap (λ (y : ℕ). y % 3) (ap (λ (y : ℕ). F e .const + y) (sum-from-none n (λ k. rowOf (F e) n k x * x k)) ∙ rows-whole (F e) n x)) h
 
-pub rows-done : (m n i : ℕ) (F : ℕ → Poly) (x : ℕ → ℕ) → i ≡ n → ofTrits m (λ e. rowsPart (F e) n i x) ≡ ofTrits m (λ e. valueOf (F e) n x)
-rows-done m n i F x h = of-ext m _ _ (λ e l. ap (λ (k : ℕ). rowsPart (F e) n k x % 3) h ∙ ap (λ (y : ℕ). y % 3) (rows-whole (F e) n x))
+-- the value at digits is that at their remainders
+pub value-mod : (n m : ℕ) (F : ℕ → Poly) (x : ℕ → ℕ) (v : Vector) → Holds m (λ e. valueOf (F e) n (λ k. x k % 3)) v → v ≡ ofTrits m (λ e. valueOf (F e) n x)
+value-mod n m F x v h = holds-is (holds-ext (λ e l. ext-value 3 (omega arith) (F e) n (λ k. x k % 3) x (λ k. cdrop (x k)) .same) h)
 
 pub values-are : (n m : ℕ) (t : List ℕ) (x : ℕ) (d : ℕ → ℕ) → ((k : ℕ) → k < n → d k ≡ digit 3 x k) → ofTrits m (λ e. valueOf (polyAt n t e) n d) ≡ valuesAt n m t x
 unfolding valuesAt

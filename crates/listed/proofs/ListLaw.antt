@@ -11,6 +11,7 @@ use lib.Bits.{bitAnd, bitXor, and-mask, and-zero-r, xor-zero-l}
 use lib.ListN.{length, getD, set}
 use lib.Seq.{getD-set-same, getD-set-other}
 use Rattle.residues.specs.Sums.{sum}
+use Rattle.residues.proofs.SumLaw.{sum-ext}
 use Rattle.trits.specs.declared.Vector.{Vector}
 use Rattle.trits.specs.Trit.{Holds}
 use Rattle.trits.specs.Words.{Added, negateOf}
@@ -215,3 +216,35 @@ row-begun m s z v h g = holds-ext (λ e l. ap (λ (y : ℕ). y % 3) (sym (ap (λ
   where
     none : (y : ℕ) → y + 0 ≡ y
     none y = omega arith
+
+-- nothing of a sum before its start
+pub none-begun : (a : ℕ) (H : ℕ → ℕ) → sum (a - a) H ≡ 0
+unfolding sum
+none-begun a H = let z : a - a ≡ 0 = omega arith in ap (λ (k : ℕ). sum k H) z
+
+-- a sum that starts at 0 is the whole
+pub sum-from-none : (n : ℕ) (h : ℕ → ℕ) → sum (n - 0) (λ d. h (0 + d)) ≡ sum n h
+sum-from-none n h =
+    let z : n - 0 ≡ n = omega arith in
+    ap (λ (k : ℕ). sum k (λ d. h (0 + d))) z ∙ sum-ext n (λ d. h (0 + d)) h (λ d l. ap h (zero-left d))
+  where
+    zero-left : (y : ℕ) → 0 + y ≡ y
+    zero-left y = omega arith
+
+-- the unknowns before the first listed one are 0
+pub first-begun : (n : ℕ) (x : ℕ → ℕ) (at turn : List ℕ) (c : ℕ) → Lists n x at turn c → (h : ℕ → ℕ) → sum (getD at 0 0 - 0) (λ d. h (0 + d) * x (0 + d)) ≡ 0
+unfolding sum
+first-begun n x at turn c g h =
+    let z : getD at 0 0 - 0 ≡ 0 + getD at 0 0 = omega arith in
+    ap (λ (k : ℕ). sum k (λ d. h (0 + d) * x (0 + d))) z
+    ∙ sum-still 0 (getD at 0 0) (λ d. h (0 + d) * x (0 + d)) (λ d l o. ap (λ (y : ℕ). h (0 + d) * y) (g .first (0 + d) (omega arith)) ∙ nought (h (0 + d)))
+  where
+    nought : (y : ℕ) → y * 0 ≡ 0
+    nought y = omega arith
+
+-- the order of two listed unknowns
+pub pair-order : (n : ℕ) (at : List ℕ) (c s t : ℕ) → Rising n at c → s ≤ t → t < c → (getD at s 0 ≤ getD at t 0) × (getD at t 0 < n)
+pair-order n at c s t r l m =
+    by-cases (ℕ-discrete s t)
+    (λ (e : s ≡ t). let k : getD at s 0 ≡ getD at t 0 = ap (λ (y : ℕ). getD at y 0) e in (omega arith, r .below t m))
+    (λ e. let k = r .rise s t (omega arith) m in (omega arith, r .below t m))

@@ -20,14 +20,19 @@ pub struct Listed {
     pub count: usize,
 }
 
-// The unknowns below n that are not 0 modulo 3. Nothing branches on a digit: no digit foretells the next.
-pub fn nonzero(n: usize, x: &[u64; MOST_UNKNOWNS]) -> Listed
-    requires { ⌜ n ≤ mostUnknowns ⌝ }
-    ensures { λ r. ⌜ Lists n (λ k. getD (now (x .entry)) k 0 % 3) (r .at) (r .turn) (r .count) × (r .count ≤ n) ⌝ }
+// Lists the unknowns below n that are not 0 modulo 3: their numbers rise, with n after the last; for each a word that is all ones where the unknown is 2.
+// Answers how many. Nothing branches on a digit: no digit foretells the next.
+pub fn nonzero_into(
+    n: usize,
+    x: &[u64; MOST_UNKNOWNS],
+    at: &mut [usize; 21],
+    turn: &mut [u64; MOST_UNKNOWNS],
+) -> usize
+    requires { ⌜ (n ≤ mostUnknowns) × (length (now at) ≡ 21) × (length (now turn) ≡ mostUnknowns) ⌝ }
+    ensures { λ r. ⌜ Lists n (λ k. getD (now (x .entry)) k 0 % 3) (now (at .exit)) (now (turn .exit)) r × (r ≤ n) ⌝ }
 {
     let all: u64 = 0xffff_ffff_ffff_ffff;
-    let mut at = [0usize; 21];
-    let mut turn = [0u64; MOST_UNKNOWNS];
+    at[0] = 0;
     let mut count: usize = 0;
     let mut k: usize = 0;
     while k < n {
@@ -37,6 +42,17 @@ pub fn nonzero(n: usize, x: &[u64; MOST_UNKNOWNS]) -> Listed
         at[count] = k + 1;
         k += 1;
     }
+    count
+}
+
+// The same list by value.
+pub fn nonzero(n: usize, x: &[u64; MOST_UNKNOWNS]) -> Listed
+    requires { ⌜ n ≤ mostUnknowns ⌝ }
+    ensures { λ r. ⌜ Lists n (λ k. getD (now (x .entry)) k 0 % 3) (r .at) (r .turn) (r .count) × (r .count ≤ n) ⌝ }
+{
+    let mut at = [0usize; 21];
+    let mut turn = [0u64; MOST_UNKNOWNS];
+    let count = nonzero_into(n, x, &mut at, &mut turn);
     Listed { at, turn, count }
 }
 

@@ -4,10 +4,11 @@ use Prim.Native.Nat.{ℕ, _+_, _-_}
 use native.Mathlib.Omega.{arith}
 use lib.ListN.{getD}
 use Rattle.tables.proofs.IndexLaw.{row-ge, count-le}
+use Rattle.listed.proofs.ListLaw.{none-begun, pair-order}
 use Rattle.cubic_tables.specs.Words.{cubicAt}
 use Rattle.cubic_tables.proofs.OrderLaw.{pair-is, cubic-count-low}
 use Rattle.cubic_tables.proofs.HoldsLaw.{quad-holds}
-use Rattle.cubic_evaluation.proofs.ValueLaw.{pair-number, none-begun, pair-order, later-same, later-apart, cell-room, cell-entry, cell-square, next-le, cell-sum}
+use Rattle.cubic_evaluation.proofs.ValueLaw.{pair-number, later-same, later-apart, cell-room, cell-entry, cell-square, next-le, cell-sum}
 use borrow.Author.Needs.{needs}
 use Rattle.cubic_evaluation.proofs.cell.Statement.{statement}
 use Rattle.cubic_evaluation.proofs.cell.Tie as tie

@@ -8,12 +8,12 @@ use Rattle.residues.specs.Sums.{sum}
 use Rattle.trits.specs.Trit.{Holds}
 use Rattle.tables.proofs.IndexLaw.{count-is}
 use Rattle.listed.specs.Lists.{Lists}
-use Rattle.listed.proofs.ListLaw.{listed-rise, row-begun, row-more}
+use Rattle.listed.proofs.ListLaw.{listed-rise, none-begun, row-begun, row-more}
 use Rattle.cubic_tables.specs.Words.{CubicTable, cubicAt}
 use Rattle.cubic_tables.proofs.OrderLaw.{cubic-count-low}
 use Rattle.cubic_evaluation.specs.Parts.{cellSum}
 use Rattle.cubic_tables.proofs.HoldsLaw.{lin-holds}
-use Rattle.cubic_evaluation.proofs.ValueLaw.{none-begun, plane-sum}
+use Rattle.cubic_evaluation.proofs.ValueLaw.{plane-sum}
 use Rattle.cubic_evaluation.proofs.plane.Statement.{statement}
 use Rattle.cubic_evaluation.proofs.plane.Tie as tie
 use Rattle.cubic_evaluation.proofs.plane.Reads as reads

@@ -7,12 +7,12 @@ use Rattle.residues.specs.Sums.{sum}
 use Rattle.trits.specs.Trit.{Holds}
 use Rattle.tables.proofs.IndexLaw.{count-is}
 use Rattle.listed.specs.Lists.{Lists}
-use Rattle.listed.proofs.ListLaw.{row-begun, row-more}
+use Rattle.listed.proofs.ListLaw.{first-begun, row-begun, row-more}
 use Rattle.cubic_tables.specs.Words.{CubicTable, cubicAt}
 use Rattle.cubic_tables.proofs.OrderLaw.{cubic-count-low}
 use Rattle.cubic_evaluation.specs.Parts.{planeSum}
 use Rattle.cubic_tables.proofs.HoldsLaw.{const-holds}
-use Rattle.cubic_evaluation.proofs.ValueLaw.{first-begun, whole-sum}
+use Rattle.cubic_evaluation.proofs.ValueLaw.{whole-sum}
 use borrow.Author.Needs.{needs}
 use Rattle.cubic_evaluation.proofs.value_of.Statement.{statement}
 use Rattle.cubic_evaluation.proofs.value_of.Tie as tie
