@@ -25,7 +25,21 @@ Standard error: words, and the progress of a long search when it is a terminal.
 Exit status: 0  the search ended and everything was written
              2  the file was refused
              1  anything else; the output is not to be taken for a whole one
+With fewer edges than half the vertices the number of layouts is a multiple of 3. Where it is not, the
+search went wrong, and the status is 1; a multiple of 3 proves nothing.
 END
+}
+
+# What the program tells of a search that ended: the output without its layouts.
+counts=$'^vars ([1-9][0-9]?) eqs ([1-9][0-9]?)\npoints [0-9]+ additions [0-9]+ found ([0-9]{1,18}) ended$'
+ended() { [[ $# == 2 && $1$'\n'$2 =~ $counts ]]; }
+
+# Into `why`, why it was no right one (C-22, the theorem of Chevalley and Warning), or nothing.
+wrong() {
+    ended "$@" || return 0
+    local vertices=${BASH_REMATCH[1]} edges=${BASH_REMATCH[2]} found=$((10#${BASH_REMATCH[3]}))
+    ((2 * edges >= vertices || found % 3 == 0)) ||
+        why="the search went wrong, and its output is not to be used: $found layouts are no multiple of 3, as they have to be with fewer edges ($edges) than half the vertices ($vertices)"
 }
 
 . "$home/commands/graphs.sh"

@@ -1,16 +1,21 @@
 # shellcheck shell=bash disable=SC2154,SC2317,SC1090
 # bash shared.sh PARENT NAME ARGUMENTS: what every command does around its program: arguments, the first build, signals, what was
 # told. PARENT is the process of commands/status.sh.
-# commands/NAME.sh has the command's own words: `name` (of the command, its program and its crate), `usage`, `meaning NUMBER LINE`.
+# commands/NAME.sh has the command's own words: `name` (of the command, its program and its crate), `usage`, `meaning NUMBER LINE`,
+# and, where its program tells more of its end than the word "ended", `ended LINES` and `wrong LINES`.
 #
 # This shell waits. Its child looks at the arguments, builds the program where that is needed and then becomes it, with standard
-# input and output as they were given. How it ended comes back in one line on descriptor 3: the program tells it after its last
-# write to standard output was taken. Nothing told is status 1, whatever became of the child; "ended" is 76 and a refusal 77, of
+# input and output as they were given. How it ended comes back on descriptor 3: the program tells it after its last write to
+# standard output was taken. Nothing told is status 1, whatever became of the child; an end is 76 and a refusal 77, of
 # which commands/status.sh makes the command's own. The program does not outlive this shell, nor this shell its parent.
 set -u +o posix
 
 home=$(dirname "$(dirname "$(readlink -f "${BASH_SOURCE[0]}")")")
 [[ $PPID == "$1" ]] || exit 1 # it was killed before it could be heard of
+# Whether these lines, all that was told, say that the run ended; and into `why`, why it can't have been right, or nothing. No process
+# is started for that: none may be left.
+ended() { [[ $# == 1 && $1 == ended ]]; }
+wrong() { :; }
 . "$home/commands/$2.sh" || exit 1
 shift 2
 program=$home/target/bin/$name
@@ -158,8 +163,8 @@ take_arguments() {
     local files=() last=0
     while (($# > 0)); do
         case $last$1 in
-        0-h | 0--help) usage && tell ended && exit 0 || exit 1 ;;
-        0--version) version && tell ended && exit 0 || exit 1 ;;
+        0-h | 0--help) usage && tell answered && exit 0 || exit 1 ;;
+        0--version) version && tell answered && exit 0 || exit 1 ;;
         0--) last=1 ;;
         0-?*) die "there is no option $(shown "$1"); --help tells which there are" ;;
         *) files+=("$1") ;;
@@ -233,24 +238,29 @@ end_child() {
 }
 
 # The status, from what was told; where nothing was, from nothing else.
-judge() { # LINE STATUS
-    local refused='^refused ([0-9]+) line ([0-9]+)$' where=
-    if [[ $1 == ended ]]; then
+judge() { # STATUS LINES
+    local refused='^refused ([0-9]+) line ([0-9]+)$' where='' why='' status=$1
+    shift
+    if [[ $# == 1 && $1 == answered ]]; then
         exit 76
-    elif [[ $1 =~ $refused ]]; then
+    elif ended "$@"; then
+        wrong "$@"
+        [[ -n $why ]] || exit 76
+        say "$why"
+    elif [[ $# == 1 && $1 =~ $refused ]]; then
         ((BASH_REMATCH[2] == 0)) || where="line ${BASH_REMATCH[2]}: "
         say "refused: $where$(meaning "${BASH_REMATCH[1]}" "${BASH_REMATCH[2]}") (${BASH_REMATCH[1]})"
         exit 77
-    elif [[ $1 != said ]] && (($2 != 141)); then # after SIGPIPE the reader knows
+    elif [[ ${1-} != said ]] && ((status != 141)); then # after SIGPIPE the reader knows
         wipe
-        (($2 <= 128)) || say "the program was ended by signal $(($2 - 128))"
+        ((status <= 128)) || say "the program was ended by signal $((status - 128))"
         say "the run did not end; its output is not whole"
     fi
     exit 1
 }
 
 run_command() {
-    local in out back told line status input=1 output=1
+    local in out back told line lines=() status input=1 output=1
     # a descriptor that is closed must not become that of another file
     [[ -e /dev/fd/0 ]] || { input=0 && exec </dev/null; }
     [[ -e /dev/fd/1 ]] || { output=0 && exec >/dev/null; }
@@ -261,9 +271,9 @@ run_command() {
     exec {in}<&- {out}>&-
     wait "$!"
     status=$?
-    IFS= read -r -t 1 -u "$told" line || line=
+    while ((${#lines[@]} < 3)) && IFS= read -r -t 1 -u "$told" line; do lines+=("$line"); done
     trap '' PIPE # words that nobody reads
-    judge "$line" "$status"
+    judge "$status" "${lines[@]}"
 }
 
 run_command "$@"

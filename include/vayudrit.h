@@ -142,6 +142,9 @@ extern "C" {
  * quadratic table and up to 3 with a cubic one. A whole walk makes 2 (3^n - 1) - n, or 3 (3^n - 1) - 2 n - n (n + 1) / 2:
  * at n = 2 these are 14 and 17.
  *
+ * With 2 m below n (cubic: 3 m below n) the `found` of all calls of a whole walk, from place 0 until ended, sum to a
+ * multiple of 3. Another sum shows at once that the run was bad; a multiple of 3 shows nothing.
+ *
  * At n = 1, where the table's length does not tell the degree, the record does: second slot (0,0) is 0 in the quadratic
  * one and the table's entry of x0*x0 in the cubic one. Either is accepted and comes back moved on as what it was; list,
  * answer and all else are the same.

@@ -29,6 +29,20 @@ gives() {
     passed
 }
 
+# copy_of NAME: the command in the folder `copy`, where its program is another one
+copy_of() {
+    command=$1 copy=$out/copy
+    mkdir -p "$copy/target/bin" "$copy/crates/$command/src"
+    cp -r "$command" commands "$copy"
+    printf 'base:\n%s: base io\nother: base\n' "$command" >"$copy/crates.txt"
+}
+# with_program STATUS WORDS LINES: what the copy gives with a program that is these lines of shell
+with_program() {
+    printf '#!/bin/sh\n%s\n' "$3" >"$copy/target/bin/$command"
+    chmod +x "$copy/target/bin/$command"
+    gives "$1" "$2" "$copy/$command" examples/triangle.col
+}
+
 until_true() { local turn; for ((turn = 0; turn < 200; turn++)); do ! "$@" || return 0; sleep 0.02; done; return 1; }
 gone() { ! kill -0 "$1" 2>/dev/null; }
 child_of() { awk -v parent="$1" '{ sub(/.*\) /, "") } $2 == parent { split(FILENAME, part, "/"); print part[3] }' /proc/[0-9]*/stat 2>/dev/null | head -n 1 || :; }

@@ -89,6 +89,18 @@ for file in examples/*.col; do
 done
 passed
 
+# ---- the script with other programs, in a copy: the one word "ended" is an end, and nothing else is ----
+copy_of tidy
+with_program 0 '' 'echo p edge 2 1; echo ended >&3'
+with_program 1 'did not end' 'echo ended'
+with_program 1 'did not end' 'printf ended >&3'
+with_program 1 'did not end' 'echo ended more >&3'
+with_program 1 'did not end' 'echo >&3; echo ended >&3'
+with_program 1 'did not end' 'echo ended >&3; echo more >&3'
+with_program 1 'did not end' 'echo spent >&3'
+with_program 1 'did not end' 'echo vars 7 eqs 7 >&3; echo points 2187 additions 4365 found 12 ended >&3'
+with_program 2 'refused: there is no p line (11)' 'echo refused 11 line 0 >&3'
+
 # ---- signals while it waits for its input: nothing is left of it, and nothing written ----
 mkfifo "$out/pipe"
 killed() { # SIGNAL WHOM

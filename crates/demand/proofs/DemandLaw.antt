@@ -15,10 +15,12 @@ use Rattle.walks.specs.Cost.{costOf}
 use Rattle.walks.proofs.RunsLaw.{Adds, sums-are, ended-iff, calls-enough, calls-end, whole-run, run-once}
 use Rattle.walks.proofs.CostLaw.{whole-two, whole-three}
 use Rattle.held.proofs.StandLaw.{zeros-all, all-zeros}
+use Rattle.warning.specs.Few.{Few}
+use Rattle.warning.proofs.WarningLaw.{run-warning}
 use Rattle.given.specs.declared.Degree.{Degree}
 use Rattle.given.specs.declared.Degree.the-variants.{Two, Three}
 use Rattle.given.specs.Given.{Given, depthOf, valuesOf, Checked}
-use Rattle.given.proofs.ValuesLaw.{values-at}
+use Rattle.given.proofs.ValuesLaw.{values-at, flat-values, ext-values}
 use Rattle.opening.specs.declared.Record.{Record}
 use Rattle.opening.specs.Opened.{openedAt}
 use Rattle.search.specs.Search.{trailBehind}
@@ -110,6 +112,13 @@ module _ (g : Given) where
           points = d .points ∙ end-is g;
           additions = d .additions ∙ ap (costIn T 0) (end-is g) ∙ cost-all;
         }
+
+    -- C-22: with few equations, the zeros found in all calls together are a multiple of 3
+    pub threes : Few (depthOf (g .degree)) (g .m) (g .n) → SaysEnded (given .told) → given .found % 3 ≡ 0
+    unfolding trailBehind
+    threes few e =
+        run-warning (depthOf (g .degree)) (g .n) (g .m) (valuesOf g) few (ext-values 3 (omega arith) g) (flat-values 3 (omega arith) g)
+        (openedAt g) (callOf g) qs (serves g ok) e
 
     -- a run with as many requests that ask for something as there are points has ended
     pub always-ends : 3 ^ g .n ≤ askedIn qs → SaysEnded (given .told)

@@ -23,11 +23,14 @@ use Rattle.walks.specs.Runs.{Request, Reply, pointsTold, OneReply, EachReply, a
 use Rattle.walks.specs.Zeros.{placesIn}
 use Rattle.walks.proofs.CallLaw.{points-end, cost-most, zeros-room, zeros-length, report-place}
 use Rattle.walks.proofs.RunsLaw.{whole-run, run-once}
+use Rattle.warning.specs.Few.{Few}
+use Rattle.warning.proofs.WarningLaw.{run-warning}
 use Rattle.codec.specs.Codec.{wordsIn, bytesFrom, pasted}
 use Rattle.codec.proofs.CodecLaw.{length-from}
 use Rattle.given.specs.declared.Degree.{Degree}
-use Rattle.given.specs.Given.{Given, tableWith}
+use Rattle.given.specs.Given.{Given, depthOf, tableWith, valuesOf}
 use Rattle.given.proofs.TableLaw.{within, power-small}
+use Rattle.given.proofs.ValuesLaw.{flat-values, ext-values}
 use Rattle.opening.specs.declared.Record.{Record}
 use Rattle.opening.specs.Opened.{openedAt}
 use Rattle.search.specs.declared.Answer.the-variants.{Ran}
@@ -281,3 +284,11 @@ module _ (g : Given) (answers : List ℕ → Request → List ℕ) (lent : Lent 
         points = d .points ∙ end-is t;
         additions = d .additions ∙ ap (costIn T 0) (end-is t) ∙ cost-all t;
       }
+
+  -- C-22: with few equations, the zeros found in all calls together are a multiple of 3
+  pub threes : (qs : List Request) → Few (depthOf (g .degree)) (g .m) (g .n) → SaysEnded (nightOf g answers qs .told)
+      → nightOf g answers qs .found % 3 ≡ 0
+  unfolding trailBehind
+  threes qs few e =
+      run-warning (depthOf (g .degree)) (g .n) (g .m) (valuesOf t) few (ext-values 3 (omega arith) t) (flat-values 3 (omega arith) t)
+      at (bytesCall g answers) qs serves e

@@ -36,7 +36,7 @@ use Rattle.demand.proofs.DemandLaw.{cost-all}
 use Rattle.planner.specs.declared.Session.{Session}
 use Rattle.texts.specs.Text.{refusalLine, lineIf}
 use Rattle.listing.specs.Listing.{layoutLines, headLine, totalsLine}
-use Rattle.planner.specs.Output.{layoutsIn, writtenFor, outputOf, toldFor, toldOf, ownTable, leftFrom, leftOf, toldWhen, Begun}
+use Rattle.planner.specs.Output.{layoutsIn, totalsFor, writtenFor, outputOf, toldFor, toldOf, ownTable, totalsOf, leftFrom, leftOf, walkTold, toldWhen, Begun}
 use Rattle.planner.specs.Parts.{Refuses, Startable, Started}
 use Rattle.planner.proofs.GraphLaw.{zeros-layouts}
 use Rattle.planner.proofs.NextLaw.{append-none}
@@ -91,23 +91,34 @@ begun-refused input table b f number line r e q h =
           ∙ sym (append-none (take (r .used) b))
           ∙ ap (λ (x : Bool). take (r .used) b ++ lineIf x (leftFrom (r .n) (trailBehind (ownTable (take (2 * countOf (r .n)) table) r)) (r .points))) (sym (h .over));
       told = ap toldFor (refused-is (outcomeOf input 462) f line (sym e)) ∙ ap (λ (x : ℕ). refusalLine x line) (sym q) ∙ sym (h .bytes)
-          ∙ ap (λ (x : Bool). toldWhen x (take (r .used) b)) (sym (h .over));
+          ∙ ap (λ (x : Bool). toldWhen x (walkTold (take (2 * countOf (r .n)) table) r) (take (r .used) b)) (sym (h .over));
       standing = λ o. absurd (true≢false (sym o ∙ h .over));
       used = h .used;
     }
 
+-- the table of a graph's edges
+abbrev drawnTable : ℕ → List Ends → Given
+drawnTable v es = quadratic v (length es) (differencesOf v (length es) (wordsOf v (length es) (systemOf es)))
+
+-- a graph's totals are those of its walk
+totals-graph : (input : List ℕ) (v : ℕ) (es : List Ends) → outcomeOf input 462 ≡ graph v es → totalsOf (trailBehind (drawnTable v es)) ≡ totalsFor v es
+totals-graph input v es e =
+    let g = drawnTable v es in
+    let T = trailBehind g in
+    ap (λ (x : ℕ). totalsLine x (costIn T 0 x) (length (zerosIn T 0 x))) (end-is g)
+    ∙ ap₂ (λ (y : ℕ) (z : List ℕ). totalsLine (3 ^ v) y (length z)) (cost-all g) (zeros-layouts input v es e 0 (3 ^ v))
+
 -- what is left of a graph's walk from place 0 on are its layouts and the totals
 left-graph : (input : List ℕ) (v : ℕ) (es : List Ends) → outcomeOf input 462 ≡ graph v es
-    → leftFrom v (trailBehind (quadratic v (length es) (differencesOf v (length es) (wordsOf v (length es) (systemOf es))))) 0
-    ≡ layoutLines v (layoutsIn v es 0 (3 ^ v)) ++ totalsLine (3 ^ v) (2 * (3 ^ v - 1) - v) (length (layoutsIn v es 0 (3 ^ v)))
+    → leftFrom v (trailBehind (drawnTable v es)) 0 ≡ layoutLines v (layoutsIn v es 0 (3 ^ v)) ++ totalsFor v es
 unfolding leftFrom
 left-graph input v es e =
-    let g = quadratic v (length es) (differencesOf v (length es) (wordsOf v (length es) (systemOf es))) in
+    let g = drawnTable v es in
     let T = trailBehind g in
     let none : (x : ℕ) → x - 0 ≡ x = λ x. omega arith in
-    ap (λ (x : ℕ). layoutLines v (zerosIn T 0 (x - 0)) ++ totalsLine x (costIn T 0 x) (length (zerosIn T 0 x))) (end-is g)
-    ∙ ap₂ (λ (x : ℕ) (y : ℕ). layoutLines v (zerosIn T 0 x) ++ totalsLine (3 ^ v) y (length (zerosIn T 0 (3 ^ v)))) (none (3 ^ v)) (cost-all g)
-    ∙ ap (λ (z : List ℕ). layoutLines v z ++ totalsLine (3 ^ v) (2 * (3 ^ v - 1) - v) (length z)) (zeros-layouts input v es e 0 (3 ^ v))
+    ap₂ (λ (x y : List ℕ). layoutLines v x ++ y)
+    (ap (λ (x : ℕ). zerosIn T 0 (x - 0)) (end-is g) ∙ ap (zerosIn T 0) (none (3 ^ v)) ∙ zeros-layouts input v es e 0 (3 ^ v))
+    (totals-graph input v es e)
 
 module _ (input : List ℕ) (n m : ℕ) (e : answer.Graph n m ≡ answerOf (outcomeOf input 462)) where
   abbrev found : (es : List Ends) × (outcomeOf input 462 ≡ graph n es) × (length es ≡ m)
@@ -144,16 +155,26 @@ module _ (input : List ℕ) (n m : ℕ) (e : answer.Graph n m ≡ answerOf (outc
   -- a graph
   pub begun-graph : (old ws t rest b : List ℕ) (r : Session) → ws ≡ wordsAfter (outcomeOf input 462) old
       → Started n m (take (2 * countOf n) ws) t b r → length t ≡ 2 * countOf n → Begun input (t ++ rest) b r
-  unfolding outputOf toldOf leftOf
+  unfolding outputOf toldOf leftOf walkTold
   begun-graph old ws t rest b r q h l =
       let a : take (2 * countOf (r .n)) (t ++ rest) ≡ t = take-at t rest (2 * countOf (r .n)) (l ∙ ap (λ (x : ℕ). 2 * countOf x) (sym (h .unknowns))) in
       record {
         output = whole (found .0) (found .1) (found .2) (words-are old ws q) a;
-        told = ap toldFor (found .1) ∙ ap (λ (x : Bool). toldWhen x (take (r .used) b)) (sym (h .going));
+        told = ap toldFor (found .1) ∙ ending (found .0) (found .1) (found .2) (words-are old ws q) a
+            ∙ ap (λ (x : Bool). toldWhen x (walkTold (take (2 * countOf (r .n)) (t ++ rest)) r) (take (r .used) b)) (sym (h .going));
         standing = λ o. rw a (h .standing);
         used = h .used;
       }
     where
+      ending : (es : List Ends) → outcomeOf input 462 ≡ graph n es → length es ≡ m → take (2 * countOf n) ws ≡ wordsOf n m (systemOf es)
+          → take (2 * countOf (r .n)) (t ++ rest) ≡ t
+          → toldFor (graph n es) ≡ headLine (r .n) (r .m) ++ totalsOf (trailBehind (ownTable (take (2 * countOf (r .n)) (t ++ rest)) r))
+      ending es g k w a =
+          ap (λ (x : List ℕ). headLine n (length es) ++ x) (sym (totals-graph input n es g))
+          ∙ ap (λ (m : ℕ). headLine n m ++ totalsOf (trailBehind (quadratic n m (differencesOf n m (wordsOf n m (systemOf es)))))) k
+          ∙ ap₂ (λ (x y : ℕ). headLine x y ++ totalsOf (trailBehind (quadratic x y (differencesOf n m (wordsOf n m (systemOf es)))))) (sym (h .unknowns)) (sym (h .equations))
+          ∙ ap (λ (x : List ℕ). headLine (r .n) (r .m) ++ totalsOf (trailBehind (ownTable x r))) (sym (a ∙ h .differences ∙ ap (differencesOf n m) w))
+
       whole : (es : List Ends) → outcomeOf input 462 ≡ graph n es → length es ≡ m → take (2 * countOf n) ws ≡ wordsOf n m (systemOf es)
           → take (2 * countOf (r .n)) (t ++ rest) ≡ t
           → writtenFor (outcomeOf input 462) ≡ take (r .used) b ++ lineIf (r .open) (leftFrom (r .n) (trailBehind (ownTable (take (2 * countOf (r .n)) (t ++ rest)) r)) (r .points))

@@ -3,7 +3,6 @@ use mathlib.Core.Path.{_≡_}
 use mathlib.Core.List.{List, [], _∷_, _++_}
 use Prim.Native.Nat.{ℕ}
 use Rattle.planner.specs.Output.{outputOf, toldOf}
-use Rattle.texts.specs.Text.{endedLine}
 
 -- "p edge 2 1"
 abbrev pub problem : List ℕ
@@ -55,5 +54,5 @@ refusal = 114 ∷ 101 ∷ 102 ∷ 117 ∷ 115 ∷ 101 ∷ 100 ∷ 32 ∷ 49 ∷ 
 pub record Cases : Type 0 where
   pub output : outputOf (problem ++ edge) ≡ vars ++ (first ++ (second ++ (third ++ (fourth ++ (sixth ++ (eighth ++ totals))))))
   pub refused : outputOf (problem ++ loop) ≡ refusal
-  pub told-ended : toldOf (problem ++ edge) ≡ endedLine
+  pub told-ended : toldOf (problem ++ edge) ≡ vars ++ totals
   pub told-refused : toldOf (problem ++ loop) ≡ refusal

@@ -15,7 +15,7 @@ use Rattle.given.specs.Given.{Given, quadratic, Checked}
 use Rattle.search.specs.Search.{trailBehind}
 use Rattle.opening.specs.Opened.{openedAt}
 use Rattle.planner.specs.declared.Session.{Session}
-use Rattle.texts.specs.Text.{refusalLine, lineIf, endedLine}
+use Rattle.texts.specs.Text.{refusalLine, lineIf}
 use Rattle.listing.specs.Listing.{layoutLines, headLine, totalsLine}
 
 -- ---- for planners
@@ -29,19 +29,21 @@ unfoldable pub layoutsIn : ℕ → List Ends → ℕ → ℕ → List ℕ
 layoutsIn n es p zero = []
 layoutsIn n es p (suc k) = listed (differAt es p) (pointOf 3 n p) (layoutsIn n es (suc p) k)
 
--- the whole output: the head, a line for every layout and the totals of the whole walk; or the refusal and its line
+-- the totals of the whole walk
+abbrev pub totalsFor : ℕ → List Ends → List ℕ
+totalsFor v es = totalsLine (3 ^ v) (2 * (3 ^ v - 1) - v) (length (layoutsIn v es 0 (3 ^ v)))
+
+-- the whole output: the head, a line for every layout and the totals; or the refusal and its line
 abbrev pub writtenFor : Outcome → List ℕ
-writtenFor (graph v es) =
-    headLine v (length es)
-    ++ (layoutLines v (layoutsIn v es 0 (3 ^ v)) ++ totalsLine (3 ^ v) (2 * (3 ^ v - 1) - v) (length (layoutsIn v es 0 (3 ^ v))))
+writtenFor (graph v es) = headLine v (length es) ++ (layoutLines v (layoutsIn v es 0 (3 ^ v)) ++ totalsFor v es)
 writtenFor (refused r k) = refusalLine (numberOf r) k
 
 unfoldable pub outputOf : List ℕ → List ℕ
 outputOf text = writtenFor (outcomeOf text wordsLeast)
 
--- what is told beside the output once all of it was written: that the search ended, or the refusal
+-- what is told beside the output once all of it was written: the output without its layouts
 abbrev pub toldFor : Outcome → List ℕ
-toldFor (graph v es) = endedLine
+toldFor (graph v es) = headLine v (length es) ++ totalsFor v es
 toldFor (refused r k) = refusalLine (numberOf r) k
 
 unfoldable pub toldOf : List ℕ → List ℕ
@@ -60,24 +62,31 @@ pub record Standing (t : List ℕ) (s : Session) : Type 0 where
   pub additions : s .additions ≡ costIn (trailBehind (ownTable t s)) 0 (s .points)
   pub found : s .found ≡ length (zerosIn (trailBehind (ownTable t s)) 0 (s .points))
 
+-- the totals of the walk T
+abbrev pub totalsOf : Trail → List ℕ
+totalsOf T = totalsLine (T .end) (costIn T 0 (T .end)) (length (zerosIn T 0 (T .end)))
+
 -- what is left to write of the walk T of n unknowns from place p on
 unfoldable pub leftFrom : ℕ → Trail → ℕ → List ℕ
-leftFrom n T p =
-    layoutLines n (zerosIn T p (T .end - p)) ++ totalsLine (T .end) (costIn T 0 (T .end)) (length (zerosIn T 0 (T .end)))
+leftFrom n T p = layoutLines n (zerosIn T p (T .end - p)) ++ totalsOf T
 
 -- what is left to write: nothing once the session is over
 unfoldable pub leftOf : List ℕ → Session → List ℕ
 leftOf t s = lineIf (s .open) (leftFrom (s .n) (trailBehind (ownTable t s)) (s .points))
 
--- what is told of a walk that goes on is that it ended; otherwise it is what was written
-abbrev pub toldWhen : Bool → List ℕ → List ℕ
-toldWhen true l = endedLine
-toldWhen false l = l
+-- what is told of a walk at its end: the head and the totals
+unfoldable pub walkTold : List ℕ → Session → List ℕ
+walkTold t s = headLine (s .n) (s .m) ++ totalsOf (trailBehind (ownTable t s))
+
+-- that of a walk which goes on; otherwise it is what was written
+abbrev pub toldWhen : Bool → List ℕ → List ℕ → List ℕ
+toldWhen true w l = w
+toldWhen false w l = l
 
 -- after reading: what is to be written first, and the rest, are the whole output
 pub record Begun (input table b : List ℕ) (r : Session) : Type 0 where
   pub output : outputOf input ≡ take (r .used) b ++ leftOf (take (2 * countOf (r .n)) table) r
-  pub told : toldOf input ≡ toldWhen (r .open) (take (r .used) b)
+  pub told : toldOf input ≡ toldWhen (r .open) (walkTold (take (2 * countOf (r .n)) table) r) (take (r .used) b)
   pub standing : r .open ≡ true → Standing (take (2 * countOf (r .n)) table) r
   pub used : r .used ≤ length b
 

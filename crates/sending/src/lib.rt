@@ -6,6 +6,7 @@ use endings::Ending;
 use libc::STDOUT_FILENO;
 use planner::Session;
 ghost use mathlib.Core.Path.{_≡_};
+ghost use mathlib.Core.Bool.{true};
 ghost use Prim.Native.Nat.{_+_, _*_, _≤_};
 ghost use lib.ListN.{length};
 ghost use Rattle.refusals.specs.Limits.{mostWords, pieceEntries};
@@ -21,8 +22,11 @@ const BUDGET: u64 = 67108864;
 // The bytes of the text that is lent to each call.
 pub const TEXT_BYTES: usize = 65536;
 
-// How many bytes of the output were taken so far, and whether those are all.
+// What the calls so far did, how many bytes of the output were taken, and whether those are all.
 struct Driven {
+    points: u64,
+    additions: u64,
+    found: u64,
     sent: u64,
     all: bool,
 }
@@ -36,7 +40,7 @@ fn drive(
     first: u64,
     screen: Screen,
 ) -> Driven
-    requires { ⌜ Standing (now table) begun × (1 ≤ length (now list)) × (longestLayout * length (now list) + longestTotals ≤ length (now text)) × (length (now text) ≤ textBytes) × (first ≤ textBytes) ⌝ }
+    requires { ⌜ Standing (now table) begun × (1 ≤ length (now list)) × (longestLayout * length (now list) + longestTotals ≤ length (now text)) × (length (now text) ≤ textBytes) × (first ≤ textBytes) × (begun .open ≡ true) ⌝ }
     ensures { λ r. ⌜ Drives (now (table .entry)) begun first r ⌝ }
 {
     let mut s = begun;
@@ -50,16 +54,28 @@ fn drive(
         let got = streams::send(STDOUT_FILENO, &text[..used]);
         sent += got as u64;
         if got < used {
-            return Driven { sent, all: false };
+            return Driven {
+                points: s.points,
+                additions: s.additions,
+                found: s.found,
+                sent,
+                all: false,
+            };
         }
         shown = progress::show(screen, shown, before, s);
     }
-    Driven { sent, all: true }
+    Driven {
+        points: s.points,
+        additions: s.additions,
+        found: s.found,
+        sent,
+        all: true,
+    }
 }
 
 // The walk of a graph that was read, and its end; so many bytes were taken before it.
 fn walk_graph(s: Session, table: &[u64], list: &mut [u64], text: &mut [u8], first: u64) -> Ending
-    requires { ⌜ Standing (now table) s × (1 ≤ length (now list)) × (longestLayout * length (now list) + longestTotals ≤ length (now text)) × (length (now text) ≤ textBytes) × (first ≤ textBytes) ⌝ }
+    requires { ⌜ Standing (now table) s × (1 ≤ length (now list)) × (longestLayout * length (now list) + longestTotals ≤ length (now text)) × (length (now text) ≤ textBytes) × (first ≤ textBytes) × (s .open ≡ true) ⌝ }
     ensures { λ r. ⌜ Walks (now (table .entry)) s first (now (text .exit)) r ⌝ }
 {
     let screen = progress::look();
@@ -72,7 +88,8 @@ fn walk_graph(s: Session, table: &[u64], list: &mut [u64], text: &mut [u8], firs
             closed: false,
         };
     }
-    let told = texts::put(text, 0, b"ended\n");
+    let head = listing::put_head(text, s.n, s.m);
+    let told = listing::put_totals(text, head, d.points, d.additions, d.found);
     endings::concluded(told, d.sent)
 }
 

@@ -35,7 +35,7 @@ sum-swap zero b h = sym (sum-const b 0 ∙ mul-zero b)
 sum-swap (suc a) b h = ap (λ (n : ℕ). n + sum b (λ j. h a j)) (sum-swap a b h) ∙ sym (sum-add b (λ j. sum a (λ i. h i j)) (λ j. h a j))
 
 -- q * m places as m times q
-sum-rows : (q m : ℕ) (h : ℕ → ℕ) → sum (q * m) h ≡ sum m (λ k. sum q (λ e. h (q * k + e)))
+pub sum-rows : (q m : ℕ) (h : ℕ → ℕ) → sum (q * m) h ≡ sum m (λ k. sum q (λ e. h (q * k + e)))
 unfolding sum
 sum-rows q zero h = ap (λ (n : ℕ). sum n h) (mul-zero q)
 sum-rows q (suc m) h =

@@ -9,13 +9,13 @@ use native.Mathlib.Nat.{add-zero, zero-add}
 use native.Mathlib.Decide.{decLt}
 use native.Mathlib.Omega.{arith}
 use lib.Dec.{eqb}
-use lib.ListN.{length}
+use lib.ListN.{length, length-append}
 use borrow.Author.Tests.{eqb-false}
 use Rattle.walks.specs.declared.Stop.the-variants.{Ended}
 use Rattle.walks.specs.declared.Report.{Report}
 use Rattle.walks.specs.Calls.{Trail, zerosIn, costIn, reportOf, until}
 use Rattle.walks.specs.Zeros.{Once, Distinct}
-use Rattle.walks.specs.Runs.{Request, Reply, Engine, callsIn, pointsTold, additionsTold, listedIn, lastTold, Sums, sumsOf, SaysEnded, Moved, OneReply, EachReply, WholeRun, Asks, unless, askedIn, ranBy, Serves, Willing}
+use Rattle.walks.specs.Runs.{Request, Reply, Engine, callsIn, pointsTold, additionsTold, foundTold, listedIn, lastTold, Sums, sumsOf, SaysEnded, Moved, OneReply, EachReply, WholeRun, Asks, unless, askedIn, ranBy, Serves, Willing}
 use Rattle.walks.proofs.CallLaw.{zeros-add, cost-add, points-le, points-one, points-end, stop-ended, report-place, after-front, after-drop}
 use Rattle.walks.proofs.JoinLaw.{zeros-until, cost-until}
 use Rattle.walks.proofs.ZeroLaw.{zeros-map, all-hold, all-once}
@@ -75,6 +75,7 @@ module _ (T : Trail) {S : Type 0} (at : ℕ → S) where
       pub last : sumsOf E s qs .last ≡ at (p + sumsOf E s qs .points)
       pub listed : sumsOf E s qs .listed ≡ zerosIn T p (sumsOf E s qs .points)
       pub additions : sumsOf E s qs .additions ≡ costIn T p (sumsOf E s qs .points)
+      pub found : sumsOf E s qs .found ≡ length (zerosIn T p (sumsOf E s qs .points))
 
     listed-one : (p : ℕ) (s : S) (q : Request) (r : Reply S) (o : Option Report) → OneReply T at p s q r o → listedIn o (r .list) ≡ zerosIn T p (pointsTold o)
     unfolding zerosIn
@@ -86,9 +87,14 @@ module _ (T : Trail) {S : Type 0} (at : ℕ → S) where
     additions-one p s q r none k = refl
     additions-one p s q r (some w) m = m .additions
 
+    found-one : (p : ℕ) (s : S) (q : Request) (r : Reply S) (o : Option Report) → OneReply T at p s q r o → foundTold o ≡ length (zerosIn T p (pointsTold o))
+    unfolding zerosIn
+    found-one p s q r none k = refl
+    found-one p s q r (some w) m = m .found
+
     pub adds : (p : ℕ) (s : S) (qs : List Request) → p ≤ T .end → s ≡ at p → EachReply T at E p s qs → Adds p s qs
     unfolding sumsOf zerosIn costIn
-    adds p s [] h e f = record { within = omega arith; last = e ∙ ap at (sym (add-zero p)); listed = refl; additions = refl }
+    adds p s [] h e f = record { within = omega arith; last = e ∙ ap at (sym (add-zero p)); listed = refl; additions = refl; found = refl }
     adds p s (q ∷ qs) h e f =
         let o = E s q .told in
         let k = pointsTold o in
@@ -100,6 +106,8 @@ module _ (T : Trail) {S : Type 0} (at : ℕ → S) where
           last = u .last ∙ ap at (sum-over p k n);
           listed = ap₂ (λ (x y : List ℕ). x ++ y) (listed-one p s q (E s q) o (f .0)) (u .listed) ∙ sym (zeros-add T p k n);
           additions = ap₂ (λ (x y : ℕ). x + y) (additions-one p s q (E s q) o (f .0)) (u .additions) ∙ sym (cost-add T p k n);
+          found = ap₂ (λ (x y : ℕ). x + y) (found-one p s q (E s q) o (f .0)) (u .found)
+              ∙ sym (ap length (zeros-add T p k n) ∙ length-append (zerosIn T p k) (zerosIn T (p + k) n));
         }
 
     -- ---- "ended" is told exactly at the end
@@ -221,6 +229,7 @@ module _ (T : Trail) {S : Type 0} (at : ℕ → S) where
             all = λ x. rw l (all-hold T x);
             points = k;
             additions = a .additions ∙ ap (costIn T 0) k;
+            found = a .found ∙ ap (λ (x : ℕ). length (zerosIn T 0 x)) k;
           }
 
 -- no entry twice, where different places have different entries

@@ -40,6 +40,10 @@ abbrev pub additionsTold : Option Report → ℕ
 additionsTold none = 0
 additionsTold (some w) = w .additions
 
+abbrev pub foundTold : Option Report → ℕ
+foundTold none = 0
+foundTold (some w) = w .found
+
 -- the entries that a call listed: the first `found` of the list as it returned it
 abbrev pub listedIn : Option Report → List ℕ → List ℕ
 listedIn none l = []
@@ -50,18 +54,19 @@ abbrev pub lastTold : Option Report → Option Report → Option Report
 lastTold a none = a
 lastTold a (some w) = some w
 
--- ---- what the calls of a run gave together, refused ones left out: the state after, how many ran, points and additions summed,
--- lists joined, and the last answer that is no refusal
+-- ---- what the calls of a run gave together, refused ones left out: the state after, how many ran, points, additions and
+-- zeros found summed, lists joined, and the last answer that is no refusal
 pub record Sums (S : Type 0) : Type 0 where
   pub last : S
   pub calls : ℕ
   pub points : ℕ
   pub additions : ℕ
+  pub found : ℕ
   pub listed : List ℕ
   pub told : Option Report
 
 unfoldable pub sumsOf : {S : Type 0} → Engine S → S → List Request → Sums S
-sumsOf E s [] = record { last = s; calls = 0; points = 0; additions = 0; listed = []; told = none }
+sumsOf E s [] = record { last = s; calls = 0; points = 0; additions = 0; found = 0; listed = []; told = none }
 sumsOf E s (q ∷ qs) =
     let r = E s q in
     let u = sumsOf E (r .state) qs in
@@ -70,6 +75,7 @@ sumsOf E s (q ∷ qs) =
       calls = callsIn (r .told) + u .calls;
       points = pointsTold (r .told) + u .points;
       additions = additionsTold (r .told) + u .additions;
+      found = foundTold (r .told) + u .found;
       listed = listedIn (r .told) (r .list) ++ u .listed;
       told = lastTold (r .told) (u .told);
     }
@@ -109,7 +115,7 @@ EachReply T at E p s [] = Unit {0}
 EachReply T at E p s (q ∷ qs) = OneReply T at p s q (E s q) (E s q .told) × EachReply T at E (p + pointsTold (E s q .told)) (E s q .state) qs
 
 -- ---- demand 3, of a run from the state at place 0 whose last answer is "ended": each answer keeps its promise, together they list
--- all zeros of the walk in order, and examine as many points and make the additions that the whole walk has
+-- all zeros of the walk in order, tell as many as found, and examine as many points and make the additions that the whole walk has
 pub record WholeRun (T : Trail) {S : Type 0} (at : ℕ → S) (E : Engine S) (qs : List Request) : Type 0 where
   pub each : EachReply T at E 0 (at 0) qs
   pub last : sumsOf E (at 0) qs .last ≡ at (T .end)
@@ -117,6 +123,7 @@ pub record WholeRun (T : Trail) {S : Type 0} (at : ℕ → S) (E : Engine S) (qs
   pub all : (x : ℕ) → Holds x (sumsOf E (at 0) qs .listed) ↔ ((a : ℕ) × (a < T .end) × (T .zeroAt a ≡ true) × (T .entry a ≡ x))
   pub points : sumsOf E (at 0) qs .points ≡ T .end
   pub additions : sumsOf E (at 0) qs .additions ≡ costIn T 0 (T .end)
+  pub found : sumsOf E (at 0) qs .found ≡ length (zerosIn T 0 (T .end))
 
 -- ---- what is asked of an engine
 -- a request with a budget and with room in its list, and how many of a run are such

@@ -1,12 +1,13 @@
 -- `sending::drive` keeps its contract and ends: the bytes are counted before each call, and each call but the last examines points.
 use mathlib.Core.Path.{_≡_, refl, sym, _∙_}
+use mathlib.Core.Bool.{true≢false}
 use Prim.Native.Nat.{_+_, _-_, _*_, _^_, _≤_}
 use lib.ListN.{length}
 use lib.Seq.{length-take-le}
 use native.Mathlib.Omega.{arith}
 use borrow.Author.Needs.{needs}
 use Rattle.planner.proofs.DriveLaw.{callsLeft, falls}
-use Rattle.sending.proofs.EndLaw.{Counted, counted-first, sum-fits, short, counted-next, all-taken}
+use Rattle.sending.proofs.EndLaw.{Counted, counted-first, sum-fits, short, counted-next, all-taken, totals-are}
 use Rattle.sending.proofs.drive.Statement.{statement}
 use Rattle.sending.proofs.drive.Tie as tie
 
@@ -20,7 +21,7 @@ abbrev μ-loop : tie.MeasureT-loop
 loop-holds : tie.Need-loop-holds Inv-loop μ-loop
 loop-holds c =
     let a = c .before .before .before in
-    (counted-first (a .args .table .now) (a .args .begun) (a .args .first) (a .pre .0) (a .pre .4), refl, refl, a .pre .1, a .pre .2, a .pre .3)
+    (counted-first (a .args .table .now) (a .args .begun) (a .args .first) (a .pre .0) (a .pre .4) (a .pre .5), refl, refl, a .pre .1, a .pre .2, a .pre .3)
 
 next-requires : tie.Need-next-requires Inv-loop μ-loop
 next-requires c κs =
@@ -60,7 +61,7 @@ returns c =
     let l = c .before .before .before .before .before .before .before .before .before .before .before .before .loop in
     let k = c .before .before .before .before .before .before .before .before .next in
     let b = k .last .1 .1 .1 .1 .0 in
-    record { all = short (a .table .now) (a .begun) (a .first) (l .s) (l .sent) (l .inv .0) b (k .result) (c .before .before .before .before .before .before .before .before .before .before .before .loop-test .taken) (k .ensures .0) (omega (arith, k .kept .1 .1 .1 .1 .0, l .inv .5)) (c .before .send .result) (c .if1 .taken) }
+    record { all = short (a .table .now) (a .begun) (a .first) (l .s) (l .sent) (l .inv .0) b (k .result) (c .before .before .before .before .before .before .before .before .before .before .before .loop-test .taken) (k .ensures .0) (omega (arith, k .kept .1 .1 .1 .1 .0, l .inv .5)) (c .before .send .result) (c .if1 .taken); totals = λ e. absurd (true≢false (sym e)) }
 
 show-requires : tie.Need-show-requires Inv-loop μ-loop
 show-requires c κs = search needs
@@ -75,7 +76,7 @@ loop-again c =
     let k = c .before .before .before .before .before .before .before .before .before .next in
     let b = k .last .1 .1 .1 .1 .0 in
     let most : c .before .before .send .result ≤ k .result .used = omega (arith, c .before .before .send .ensures, length-take-le (k .result .used) b (k .ensures .0 .used)) in (
-      counted-next (a .table .now) (a .begun) (a .first) (l .s) (l .sent) (l .inv .0) b (k .result) (c .before .before .before .before .before .before .before .before .before .before .before .before .loop-test .taken) (k .ensures .0) (omega (arith, k .kept .1 .1 .1 .1 .0, l .inv .5)) (c .before .before .send .result) most (c .before .if1 .left),
+      counted-next (a .table .now) (a .begun) (a .first) (l .s) (l .sent) (l .inv .0) b (k .result) (c .before .before .before .before .before .before .before .before .before .before .before .before .loop-test .taken) (k .ensures .0) (omega (arith, k .kept .1 .1 .1 .1 .0, l .inv .5)) (c .before .before .send .result) most (c .before .if1 .left) (k .ensures .1 .over),
       k .kept .1 .1 .1 .0 ∙ l .inv .1,
       k .kept .1 .1 .1 .1 .0 ∙ l .inv .2,
       omega (arith, k .kept .1 .1 .1 .0, l .inv .3),
@@ -93,7 +94,7 @@ returns-2 : tie.Need-returns-2 Inv-loop μ-loop
 returns-2 c =
     let a = c .before .before .before .before .before .args in
     let l = c .before .loop in
-    record { all = all-taken (a .table .now) (a .begun) (a .first) (l .s) (l .sent) (l .inv .0) (c .loop-test .left) }
+    record { all = all-taken (a .table .now) (a .begun) (a .first) (l .s) (l .sent) (l .inv .0) (c .loop-test .left); totals = λ e. totals-are (a .table .now) (a .begun) (a .first) (l .s) (l .sent) (l .inv .0) (c .loop-test .left) }
 
 pub drive-spec : {M : Type 1} → statement M
 drive-spec =

@@ -74,6 +74,7 @@ walk-graph-requires c κs =
       omega (arith, a .pre .2, a .pre .3, b .kept .1 .1 .1 .0),
       omega (arith, a .pre .3, b .kept .1 .1 .1 .0),
       omega (arith, c .before .before .before .before .before .before .before .send .ensures, length-take-le (b .result .used) (b .last .1 .1 .1 .0) (b .ensures .used), b .ensures .used, a .pre .3, b .kept .1 .1 .1 .0),
+      not-false _ (c .before .before .before .before .if2 .left),
     )
 
 same-length-7 : tie.Need-same-length-7

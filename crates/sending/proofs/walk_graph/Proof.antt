@@ -24,11 +24,18 @@ same-length-2 c = search needs
 returns : tie.Need-returns
 returns c = none-walked (c .before .before .before .before .before .before .before .before .before .before .before .before .before .before .args .table .now) (c .before .before .before .before .before .before .before .before .before .before .before .before .before .before .args .s) (c .before .before .before .before .before .before .before .before .before .before .before .before .before .before .args .first) (c .before .before .before .before .before .before .before .drive .last .1 .1 .1 .0) (c .before .before .before .before .before .before .before .drive .result .sent)
 
-slice-aggregate-put : tie.Need-slice-aggregate-put
-slice-aggregate-put c = search needs
+put-head-requires : tie.Need-put-head-requires
+put-head-requires c κs =
+    let a = c .before .before .before .before .before .before .before .before .before .before .before .before .before .before .before in
+    let d = c .before .before .before .before .before .before .before .before .drive in
+    omega (arith, d .kept .1 .1 .1 .0, a .pre .1, a .pre .2)
 
-put-requires : tie.Need-put-requires
-put-requires c κs = search needs
+put-totals-requires : tie.Need-put-totals-requires
+put-totals-requires c κs =
+    let a = c .before .before .before .before .before .before .before .before .before .before .before .before .before .before .before .before .before .before .before in
+    let d = c .before .before .before .before .before .before .before .before .before .before .before .before .drive in
+    let h = c .before .before .before .put-head in
+    omega (arith, h .ensures .1, h .ensures .0 .size, d .kept .1 .1 .1 .0, a .pre .1, a .pre .2)
 
 concluded-requires : tie.Need-concluded-requires
 concluded-requires c κs = search needs
@@ -41,10 +48,12 @@ same-length-4 c = search needs
 
 returns-2 : tie.Need-returns-2
 returns-2 c =
-    let a = c .before .before .before .before .before .before .before .before .before .before .before .before .before .before .before .before .before .before .before .before in
-    let d = c .before .before .before .before .before .before .before .before .before .before .before .before .before .drive in
-    walked (a .args .table .now) (a .args .s) (a .args .first) (d .result) (d .last .1 .1 .1 .0) (c .before .before .before .put .last .0) (c .before .before .before .put .result) (c .concluded .result) (d .ensures) (not-false _ (c .before .before .before .before .before .before .if1 .left))
-    (c .before .before .before .put .ensures) (omega (arith, d .kept .1 .1 .1 .0, a .pre .2)) (c .concluded .ensures)
+    let a = c .before .before .before .before .before .before .before .before .before .before .before .before .before .before .before .before .before .before .before .before .before .before .before in
+    let d = c .before .before .before .before .before .before .before .before .before .before .before .before .before .before .before .before .drive in
+    let h = c .before .before .before .before .before .before .before .put-head in
+    let p = c .before .before .before .put-totals in
+    walked (a .args .table .now) (a .args .s) (a .args .first) (d .result) (d .last .1 .1 .1 .0) (h .last .0) (p .last .0) (h .result) (p .result) (c .concluded .result) (d .ensures) (not-false _ (c .before .before .before .before .before .before .before .before .before .if1 .left))
+    (h .ensures .0) (p .ensures .0) (omega (arith, h .ensures .1, p .ensures .1, d .kept .1 .1 .1 .0, a .pre .1, a .pre .2)) (c .concluded .ensures)
 
 pub walk-graph-spec : {M : Type 1} → statement M
 walk-graph-spec =
@@ -56,8 +65,8 @@ walk-graph-spec =
     same-length
     same-length-2
     returns
-    slice-aggregate-put
-    put-requires
+    put-head-requires
+    put-totals-requires
     concluded-requires
     same-length-3
     same-length-4

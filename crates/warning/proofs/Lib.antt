@@ -1,0 +1,3 @@
+pub mod AroundLaw
+pub mod WarningLaw
+pub mod Cases
