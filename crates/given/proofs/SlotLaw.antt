@@ -1,4 +1,4 @@
--- The slots and second slots of a table at a place, one by one.
+-- The slots and second slots of a table at a place, one by one, and that the end of the walk changes none of them.
 use mathlib.Core.Path.{_≡_, refl, sym, ap, ap₂, _∙_}
 use mathlib.Core.Bool.{Bool}
 use mathlib.Core.List.{List, [], _∷_, _++_}
@@ -21,8 +21,8 @@ use Rattle.tables.proofs.WordLaw.{length-tabled, entry-tabled}
 use Rattle.tables.proofs.WriteLaw.{entries-ext}
 use Rattle.cubic_tables.specs.Order.{seatOf}
 use Rattle.cubic_tables.proofs.PairLaw.{pair-row, seat-of}
-use Rattle.given.specs.Given.{Given, quadratic, cubic, valuesOf}
-use Rattle.given.specs.Slots.{slotAt, slotsAt, secondAt, secondsAt}
+use Rattle.given.specs.Given.{Given, quadratic, cubic, endingAt, valuesOf}
+use Rattle.given.specs.Slots.{valueAt, slotAt, slotsAt, secondAt, secondsAt}
 
 -- ---- slots
 module _ (g : Given) where
@@ -161,3 +161,19 @@ seconds-two n m t q =
     zeros zero i = refl
     zeros (suc k) zero = refl
     zeros (suc k) (suc i) = zeros k i
+
+-- ---- another end changes nothing of them
+module _ (g : Given) (e q : ℕ) where
+  pub value-ending : valueAt (endingAt g e) q ≡ valueAt g q
+  unfolding valueAt valuesOf
+  value-ending = refl
+
+  pub slots-ending : (b k : ℕ) → slotsAt (endingAt g e) q b k ≡ slotsAt g q b k
+  unfolding slotsAt slotAt valuesOf
+  slots-ending b zero = refl
+  slots-ending b (suc k) = ap (λ (s : List Vector). slotAt g q b ∷ s) (slots-ending (suc b) k)
+
+  pub seconds-ending : (b k : ℕ) → secondsAt (endingAt g e) q b k ≡ secondsAt g q b k
+  unfolding secondsAt secondAt valuesOf
+  seconds-ending b zero = refl
+  seconds-ending b (suc k) = ap (λ (s : List ℕ). tabled (suc k) (λ i. secondAt g q b (b + i)) ++ s) (seconds-ending (suc b) k)

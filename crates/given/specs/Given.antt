@@ -2,7 +2,7 @@
 use mathlib.Core.Path.{_≡_}
 use mathlib.Core.Bool.{_&&_}
 use mathlib.Core.List.{List}
-use Prim.Native.Nat.{ℕ, _*_}
+use Prim.Native.Nat.{ℕ, _*_, _^_}
 use lib.Dec.{ltb, leb, eqb}
 use lib.ListN.{length}
 use Rattle.refusals.specs.declared.Verdict.{Verdict}
@@ -30,22 +30,27 @@ abbrev pub countIn : Degree → ℕ → ℕ
 countIn Two n = countOf n
 countIn Three n = cubicCount n
 
--- the words of a table, and what is told beside them: n unknowns, m equations and the degree
+-- the words of a table, and what is told beside them: n unknowns, m equations, the degree, and the place at which its walk ends
 pub record Given : Type 0 where
   pub n : ℕ
   pub m : ℕ
   pub degree : Degree
   pub words : List ℕ
+  pub end : ℕ
 
--- a table of any degree, of degree 2 and of degree 3
+-- a table of any degree, of degree 2 and of degree 3: where no end is told, all 3^n places are walked
 abbrev pub tableWith : Degree → ℕ → ℕ → List ℕ → Given
-tableWith d n m t = record { n = n; m = m; degree = d; words = t }
+tableWith d n m t = record { n = n; m = m; degree = d; words = t; end = 3 ^ n }
 
 abbrev pub quadratic : ℕ → ℕ → List ℕ → Given
 quadratic n m t = tableWith Two n m t
 
 abbrev pub cubic : ℕ → ℕ → List ℕ → Given
 cubic n m t = tableWith Three n m t
+
+-- the same table with another end
+abbrev pub endingAt : Given → ℕ → Given
+endingAt g e = record { n = g .n; m = g .m; degree = g .degree; words = g .words; end = e }
 
 -- where no degree is told, the number of words tells it: at n = 1, where both lengths are the same, it is 2
 abbrev pub degreeTold : ℕ → ℕ → Degree
