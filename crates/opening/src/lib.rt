@@ -10,13 +10,13 @@ use trits::Vector;
 ghost use mathlib.Core.Path.{_≡_};
 ghost use Rattle.opening.specs.Opened.{openVerdict, openOf, refusedOpen, noRecord};
 ghost use Rattle.refusals.specs.Refusal.{codeOf};
-ghost use Rattle.given.specs.Given.{tableWith, Checked};
+ghost use Rattle.given.specs.Given.{tableWith, endingAt, Checked};
 
 mod parts;
 
 pub use parts::record_at;
 
-// The walk of one table, between two calls. Slots from n to 19 are zero, and so are the second slots that the system does not have:
+// The walk of one table from its place up to its end, between two calls. Slots from n to 19 are zero, and so are the second slots that the system does not have:
 // second slot (b, c), b not above c, is two words, high then low, at the number of the pair among those of 20 unknowns.
 pub struct Record {
     pub n: u64,
@@ -25,6 +25,7 @@ pub struct Record {
     pub value: Vector,
     pub slots: [Vector; MOST_UNKNOWNS],
     pub seconds: [u64; SECOND_WORDS],
+    pub end: Place,
 }
 
 // What opening gives: with a refusal the record is the one of zeros.
@@ -33,27 +34,46 @@ pub struct Opened {
     pub record: Record,
 }
 
-// The record of a table at any place 0 to 3^n.
+// The record of a table at any place 0 to 3^n, with all the places from there on to walk.
 pub fn open(degree: Degree, n: u64, m: u64, table: &[u64], place: Place) -> Opened
     ensures { λ r. ⌜ r ≡ openOf (tableWith degree n m (now (table .entry))) (place .0) ⌝ }
     ensures number { λ r. ⌜ codeOf (r .verdict) ≡ codeOf (openVerdict (tableWith degree n m (now (table .entry))) (place .0)) ⌝ }
 {
+    let end = positions::power(n);
+    open_range(degree, n, m, table, place, Place(end))
+}
+
+// The record of a table at a place, with an end from there to 3^n.
+pub fn open_range(
+    degree: Degree,
+    n: u64,
+    m: u64,
+    table: &[u64],
+    place: Place,
+    end: Place,
+) -> Opened
+    ensures { λ r. ⌜ r ≡ openOf (endingAt (tableWith degree n m (now (table .entry))) (end .0)) (place .0) ⌝ }
+    ensures number { λ r. ⌜ codeOf (r .verdict) ≡ codeOf (openVerdict (endingAt (tableWith degree n m (now (table .entry))) (end .0)) (place .0)) ⌝ }
+{
     let verdict = given::check(degree, n, m, table);
     match verdict {
         Verdict::Refused(f) => refused(f),
-        Verdict::Done => open_checked(degree, n, m, table, place.0),
+        Verdict::Done => open_checked(degree, n, m, table, place.0, end.0),
     }
 }
 
-// The table was checked: the place is left to judge.
-fn open_checked(degree: Degree, n: u64, m: u64, table: &[u64], at: u64) -> Opened
+// The table was checked: place and end are left to judge.
+fn open_checked(degree: Degree, n: u64, m: u64, table: &[u64], at: u64, end: u64) -> Opened
     requires { ⌜ Checked (tableWith degree n m (now table)) ⌝ }
-    ensures { λ r. ⌜ r ≡ openOf (tableWith degree n m (now (table .entry))) at ⌝ }
+    ensures { λ r. ⌜ r ≡ openOf (endingAt (tableWith degree n m (now (table .entry))) end) at ⌝ }
 {
-    if at > positions::power(n) {
+    if end > positions::power(n) {
         return refused(Refusal::Range);
     }
-    let record = record_at(degree, n, m, table, at);
+    if end < at {
+        return refused(Refusal::Range);
+    }
+    let record = record_at(degree, n, m, table, at, end);
     Opened {
         verdict: Verdict::Done,
         record,
@@ -82,5 +102,6 @@ fn no_record() -> Record
         value: none,
         slots: [none; MOST_UNKNOWNS],
         seconds: [0; SECOND_WORDS],
+        end: Place(0),
     }
 }

@@ -16,7 +16,7 @@ ghost use Rattle.polynomials.specs.Poly.{slope, diff};
 ghost use Rattle.tables.specs.Words.{polyAt, Table};
 ghost use Rattle.tables.specs.Monomials.{countOf};
 ghost use Rattle.refusals.specs.Limits.{mostUnknowns};
-ghost use Rattle.given.specs.Given.{tableWith, quadratic, cubic, Checked};
+ghost use Rattle.given.specs.Given.{tableWith, quadratic, cubic, endingAt, Checked};
 ghost use Rattle.opening.specs.Opened.{openedAt};
 ghost use Rattle.opening.specs.Parts.{Slots};
 
@@ -115,9 +115,9 @@ fn latest_place(p: u64) -> u64
 }
 
 // The record of a checked table of degree 2 at a place; c is room for its coefficients.
-fn fill(n: u64, m: u64, table: &[u64], place: u64, c: &mut [u64]) -> Record
+fn fill(n: u64, m: u64, table: &[u64], place: u64, end: u64, c: &mut [u64]) -> Record
     requires { ⌜ Checked (quadratic n m (now table)) × (place ≤ 3 ^ n) × (length (now c) ≡ 2 * countOf n) ⌝ }
-    ensures { λ r. ⌜ r ≡ openedAt (quadratic n m (now (table .entry))) place ⌝ }
+    ensures { λ r. ⌜ r ≡ openedAt (endingAt (quadratic n m (now (table .entry))) end) place ⌝ }
 {
     let k = n as usize;
     let q = latest_place(place);
@@ -132,23 +132,24 @@ fn fill(n: u64, m: u64, table: &[u64], place: u64, c: &mut [u64]) -> Record
         value,
         slots,
         seconds: [0; SECOND_WORDS],
+        end: Place(end),
     }
 }
 
 // The record of a checked table of degree 2 at a place.
-fn record_two(n: u64, m: u64, table: &[u64], place: u64) -> Record
+fn record_two(n: u64, m: u64, table: &[u64], place: u64, end: u64) -> Record
     requires { ⌜ Checked (quadratic n m (now table)) × (place ≤ 3 ^ n) ⌝ }
-    ensures { λ r. ⌜ r ≡ openedAt (quadratic n m (now (table .entry))) place ⌝ }
+    ensures { λ r. ⌜ r ≡ openedAt (endingAt (quadratic n m (now (table .entry))) end) place ⌝ }
 {
     let mut c = [0u64; MOST_WORDS];
     let len = table.len();
-    fill(n, m, table, place, &mut c[..len])
+    fill(n, m, table, place, end, &mut c[..len])
 }
 
 // The record of a checked table of degree 3 at a place.
-fn record_three(n: u64, m: u64, table: &[u64], place: u64) -> Record
+fn record_three(n: u64, m: u64, table: &[u64], place: u64, end: u64) -> Record
     requires { ⌜ Checked (cubic n m (now table)) × (place ≤ 3 ^ n) ⌝ }
-    ensures { λ r. ⌜ r ≡ openedAt (cubic n m (now (table .entry))) place ⌝ }
+    ensures { λ r. ⌜ r ≡ openedAt (endingAt (cubic n m (now (table .entry))) end) place ⌝ }
 {
     let q = latest_place(place);
     let h = cubic_opening::stood_at(table, n as usize, q);
@@ -162,16 +163,17 @@ fn record_three(n: u64, m: u64, table: &[u64], place: u64) -> Record
         value,
         slots,
         seconds,
+        end: Place(end),
     }
 }
 
-// The record of a checked table at a place.
-pub fn record_at(degree: Degree, n: u64, m: u64, table: &[u64], place: u64) -> Record
+// The record of a checked table at a place, with an end.
+pub fn record_at(degree: Degree, n: u64, m: u64, table: &[u64], place: u64, end: u64) -> Record
     requires { ⌜ Checked (tableWith degree n m (now table)) × (place ≤ 3 ^ n) ⌝ }
-    ensures { λ r. ⌜ r ≡ openedAt (tableWith degree n m (now (table .entry))) place ⌝ }
+    ensures { λ r. ⌜ r ≡ openedAt (endingAt (tableWith degree n m (now (table .entry))) end) place ⌝ }
 {
     match degree {
-        Degree::Two => record_two(n, m, table, place),
-        Degree::Three => record_three(n, m, table, place),
+        Degree::Two => record_two(n, m, table, place, end),
+        Degree::Three => record_three(n, m, table, place, end),
     }
 }

@@ -68,10 +68,14 @@ module _ (r s : Record) where
   t6 : Bool
   t6 = sameList eqb (r .seconds) (s .seconds)
 
+  t7 : Bool
+  t7 = eqb (r .end .0) (s .end .0)
+
   pub record-same : sameRecord r s ≡ true → r ≡ s
-  unfolding sameRecord t1 t2 t3 t4 t5 t6
+  unfolding sameRecord t1 t2 t3 t4 t5 t6 t7
   record-same h =
-      let h5 = and-left (t1 && t2 && t3 && t4 && t5) t6 h in
+      let h6 = and-left (t1 && t2 && t3 && t4 && t5 && t6) t7 h in
+      let h5 = and-left (t1 && t2 && t3 && t4 && t5) t6 h6 in
       let h4 = and-left (t1 && t2 && t3 && t4) t5 h5 in
       let h3 = and-left (t1 && t2 && t3) t4 h4 in
       let h2 = and-left (t1 && t2) t3 h3 in
@@ -80,14 +84,15 @@ module _ (r s : Record) where
       let e3 : r .place .0 ≡ s .place .0 = eqb-true _ _ (and-right (t1 && t2) t3 h3) in
       let e4 : r .value ≡ s .value = vector-same _ _ (and-right (t1 && t2 && t3) t4 h4) in
       let e5 : r .slots ≡ s .slots = list-same sameVector vector-same _ _ (and-right (t1 && t2 && t3 && t4) t5 h5) in
-      let e6 : r .seconds ≡ s .seconds = list-same eqb eqb-true _ _ (and-right (t1 && t2 && t3 && t4 && t5) t6 h) in
-      λ i. record { n = e1 i; m = e2 i; place = record { 0 = e3 i }; value = e4 i; slots = e5 i; seconds = e6 i }
+      let e6 : r .seconds ≡ s .seconds = list-same eqb eqb-true _ _ (and-right (t1 && t2 && t3 && t4 && t5) t6 h6) in
+      let e7 : r .end .0 ≡ s .end .0 = eqb-true _ _ (and-right (t1 && t2 && t3 && t4 && t5 && t6) t7 h) in
+      λ i. record { n = e1 i; m = e2 i; place = record { 0 = e3 i }; value = e4 i; slots = e5 i; seconds = e6 i; end = record { 0 = e7 i } }
 
 pub record-self : (r : Record) → sameRecord r r ≡ true
 unfolding sameRecord
 record-self r =
-    both _ _ (both _ _ (both _ _ (both _ _ (both _ _ (self (r .n)) (self (r .m))) (self (r .place .0))) (vector-self (r .value))) (list-self sameVector vector-self (r .slots)))
-    (list-self eqb self (r .seconds))
+    both _ _ (both _ _ (both _ _ (both _ _ (both _ _ (both _ _ (self (r .n)) (self (r .m))) (self (r .place .0))) (vector-self (r .value))) (list-self sameVector vector-self (r .slots)))
+    (list-self eqb self (r .seconds))) (self (r .end .0))
 
 pub record-iff : (r s : Record) → (sameRecord r s ≡ true) ↔ (r ≡ s)
 record-iff r s = (record-same r s, λ e. ap (sameRecord r) (sym e) ∙ record-self r)

@@ -3,7 +3,7 @@ use mathlib.Core.Path.{_≡_, refl, sym, ap, subst, _∙_}
 use mathlib.Core.Bool.{Bool, true}
 use mathlib.Core.Logic.{by-cases}
 use mathlib.Core.List.{List}
-use Prim.Native.Nat.{ℕ, _-_, _^_, _≤_, _<_}
+use Prim.Native.Nat.{ℕ, _-_, _≤_, _<_}
 use native.Mathlib.Decide.{decLt}
 use native.Mathlib.Omega.{arith}
 use lib.ListN.{length, getD, List·getD-eq-default}
@@ -19,16 +19,16 @@ use Rattle.cubic_walk.specs.Run.{stateOf, fresh, searchOf}
 use Rattle.cubic_walk.specs.Meaning.{Stands, Answers}
 use Rattle.cubic_walk.proofs.MeanLaw.{stands-value, stands-slot, stands-second, opened-stands, differences-tabled}
 use Rattle.cubic_walk.proofs.CallLaw.{call-is}
-use Rattle.given.specs.Given.{Given, cubic, cubicBehind, valuesOf, Checked}
+use Rattle.given.specs.Given.{Given, cubic, endingAt, cubicBehind, valuesOf, Checked}
 use Rattle.given.specs.Slots.{valueAt, slotsAt, secondsAt}
 use Rattle.given.proofs.TableLaw.{within, cubic-table-of}
-use Rattle.given.proofs.SlotLaw.{slot-used, slot-none, slots-length, slots-at, slots-are, second-used, second-none, seconds-long, seconds-at, seconds-are}
+use Rattle.given.proofs.SlotLaw.{slot-used, slot-none, slots-length, slots-at, slots-are, second-used, second-none, seconds-long, seconds-at, seconds-are, value-ending, slots-ending, seconds-ending}
 use Rattle.opening.specs.declared.Record.{Record}
 use Rattle.opening.specs.Opened.{openedAt}
 use Rattle.search.specs.declared.walked.Went.{Went}
 use Rattle.search.specs.Search.{trailBehind, fits}
 use Rattle.search.specs.Parts.{Leaves}
-use Rattle.search.proofs.RanLaw.{fits-place, fits-opened, leaves}
+use Rattle.search.proofs.RanLaw.{fits-end, fits-place, fits-opened, leaves}
 
 module _ (n m : ℕ) (t : List ℕ) where
   abbrev g : Given
@@ -50,7 +50,11 @@ module _ (n m : ℕ) (t : List ℕ) where
   unfolding openedAt
   walker-is r h =
       let e = fits-opened g r h in
-      λ i. record { place = r .place .0; value = e i .value; slots = e i .slots; seconds = e i .seconds }
+      let q = r .place .0 - 1 in
+      let e1 = ap (λ (x : Record). x .value) e ∙ value-ending g (r .end .0) q in
+      let e2 = ap (λ (x : Record). x .slots) e ∙ slots-ending g (r .end .0) q 0 20 in
+      let e3 = ap (λ (x : Record). x .seconds) e ∙ seconds-ending g (r .end .0) q 0 20 in
+      λ i. record { place = r .place .0; value = e1 i; slots = e2 i; seconds = e3 i }
 
   -- the opened record stands at its place
   stands-open : n ≤ 20 → (p : ℕ) (l : List ℕ) → Stands F n m p (fresh (walkerAt p) l)
@@ -64,45 +68,47 @@ module _ (n m : ℕ) (t : List ℕ) where
       (λ b c h k o. seconds-at g (p - 1) b c h k ∙ second-none n m t (p - 1) b c o)
 
   -- a state that stands at p is the record opened at p
-  opened-at : (p : ℕ) (s : State) → length (s .slots) ≡ 20 → Stands F n m p s
-      → record { n = n; m = m; place = record { 0 = p }; value = s .value; slots = s .slots; seconds = s .seconds } ≡ openedAt g p
+  opened-at : (z p : ℕ) (s : State) → length (s .slots) ≡ 20 → Stands F n m p s
+      → record { n = n; m = m; place = record { 0 = p }; value = s .value; slots = s .slots; seconds = s .seconds; end = record { 0 = z } } ≡ openedAt (endingAt g z) p
   unfolding openedAt valueAt valuesOf
-  opened-at p s long h =
-      let e1 = stands-value F ext n m p s h in
+  opened-at z p s long h =
+      let e1 = stands-value F ext n m p s h ∙ sym (value-ending g z (p - 1)) in
       let e2 = slots-are g (p - 1) (s .slots) long
       (λ i k. by-cases (decLt i n)
       (λ b. stands-slot F ext n m p s h i b ∙ sym (slot-used g (p - 1) i b))
-      (λ b. h .rest i (omega arith) ∙ sym (slot-none g (p - 1) i (omega arith)))) in
+      (λ b. h .rest i (omega arith) ∙ sym (slot-none g (p - 1) i (omega arith)))) ∙ sym (slots-ending g z (p - 1) 0 20) in
       let e3 = seconds-are g (p - 1) (s .seconds) (h .seats)
       (λ b c o k. by-cases (decLt c n)
       (λ d. stands-second F ext n m p s h b c o d ∙ sym (second-used n m t (p - 1) b c d))
-      (λ d. h .spare b c o k (omega arith) ∙ sym (second-none n m t (p - 1) b c (omega arith)))) in
-      λ i. record { n = n; m = m; place = record { 0 = p }; value = e1 i; slots = e2 i; seconds = e3 i }
+      (λ d. h .spare b c o k (omega arith) ∙ sym (second-none n m t (p - 1) b c (omega arith)))) ∙ sym (seconds-ending g z (p - 1) 0 20) in
+      λ i. record { n = n; m = m; place = record { 0 = p }; value = e1 i; slots = e2 i; seconds = e3 i; end = record { 0 = z } }
 
   -- ---- from what the walk's code says
-  module _ (ok : Checked g) (r : Record) (own : fits g r ≡ true) (b e : ℕ) (l k : List ℕ) (x : Ran) (end : e ≡ 3 ^ n) (long : length (x .walker .slots) ≡ 20)
-      (went : stateOf x k ≡ searchOf t n e b (fresh (record { place = r .place .0; value = r .value; slots = r .slots; seconds = r .seconds }) l)) where
+  module _ (ok : Checked g) (r : Record) (own : fits g r ≡ true) (b : ℕ) (l k : List ℕ) (x : Ran) (long : length (x .walker .slots) ≡ 20)
+      (went : stateOf x k ≡ searchOf t n (r .end .0) b (fresh (record { place = r .place .0; value = r .value; slots = r .slots; seconds = r .seconds }) l)) where
     abbrev p : ℕ
     p = r .place .0
 
-    call : Answers (trailBehind g) b p l (stateOf x k) × Stands F n m (x .walker .place) (stateOf x k)
+    abbrev z : ℕ
+    z = r .end .0
+
+    call : Answers (trailBehind (endingAt g z)) b p l (stateOf x k) × Stands F n m (x .walker .place) (stateOf x k)
     unfolding trailBehind valuesOf
     call =
-        subst (λ (s : State). Answers (trailBehind g) b p l s × Stands F n m (s .place) s)
-        (sym (went ∙ ap (λ (y : ℕ). searchOf t n y b (fresh (record { place = r .place .0; value = r .value; slots = r .slots; seconds = r .seconds }) l)) end
-        ∙ ap (λ (y : Walker). searchOf t n (3 ^ n) b (fresh y l)) (walker-is r own)))
-        (call-is F ext (λ e. flat-cubic 3 pos (cubicBehind n t e) n) n m (3 ^ n) (within g ok .most) (tripleAt t n)
-        (differences-tabled n m t (cubic-table-of n m t ok)) (omega arith) b p (fresh (walkerAt p) l) (fits-place g r own) (stands-open (within g ok .most) p l) refl refl)
+        subst (λ (s : State). Answers (trailBehind (endingAt g z)) b p l s × Stands F n m (s .place) s)
+        (sym (went ∙ ap (λ (y : Walker). searchOf t n z b (fresh y l)) (walker-is r own)))
+        (call-is F ext (λ e. flat-cubic 3 pos (cubicBehind n t e) n) n m z (within g ok .most) (tripleAt t n)
+        (differences-tabled n m t (cubic-table-of n m t ok)) (fits-end g r own) b p (fresh (walkerAt p) l) (fits-place g r own) (stands-open (within g ok .most) p l) refl refl)
 
     abbrev left : Went
     left =
         record {
-          «record» = record { n = n; m = m; place = record { 0 = x .walker .place }; value = x .walker .value; slots = x .walker .slots; seconds = x .walker .seconds };
+          «record» = record { n = n; m = m; place = record { 0 = x .walker .place }; value = x .walker .value; slots = x .walker .slots; seconds = x .walker .seconds; end = record { 0 = z } };
           additions = x .additions;
           found = x .found;
         }
 
-    pub three-leaves : Leaves g p b l k left
+    pub three-leaves : Leaves (endingAt g z) p b l k left
     three-leaves =
-        leaves g p b l k left (call .0 .place) (call .0 .additions) (call .0 .found) (call .0 .list)
-        (opened-at (x .walker .place) (stateOf x k) long (call .1))
+        leaves (endingAt g z) p b l k left (call .0 .place) (call .0 .additions) (call .0 .found) (call .0 .list)
+        (opened-at z (x .walker .place) (stateOf x k) long (call .1))

@@ -15,7 +15,7 @@ depth-le Two = omega arith
 depth-le Three = omega arith
 
 module _ (g : Given) where
-  pub end-is : trailBehind g .end ≡ 3 ^ g .n
+  pub end-is : trailBehind g .end ≡ g .end
   unfolding trailBehind
   end-is = refl
 
@@ -34,3 +34,7 @@ module _ (g : Given) where
   pub place-opened : (p : ℕ) → openedAt g p .place .0 ≡ p
   unfolding openedAt
   place-opened p = refl
+
+  pub end-opened : (p : ℕ) → openedAt g p .end .0 ≡ g .end
+  unfolding openedAt
+  end-opened p = refl

@@ -16,7 +16,7 @@ use Rattle.given.specs.Given.{Given, tableVerdict, Checked}
 use Rattle.given.proofs.TableLaw.{checked-next, refused-first, done-first, done-next}
 use Rattle.opening.specs.declared.Record.{Record}
 use Rattle.opening.specs.Opened.{openedAt}
-use Rattle.search.specs.Search.{trailBehind, fits, roomVerdict, searchVerdict, answerFrom, ranOf, outcomeFrom, outcomeOf, listLeft, answerNumber, answerValues, valuesFrom, Tells}
+use Rattle.search.specs.Search.{trailBehind, upTo, fits, roomVerdict, searchVerdict, answerFrom, ranOf, outcomeFrom, outcomeOf, listLeft, answerNumber, answerValues, valuesFrom, Tells}
 use Rattle.search.specs.declared.Outcome.{Outcome}
 use Rattle.search.specs.declared.Answer.the-variants.{Ran, Refused}
 use Rattle.walks.specs.Calls.{pointsIn, reportOf, listAfter}
@@ -27,15 +27,16 @@ use Rattle.search.proofs.RecordLaw.{record-self}
 abbrev pub asked : ℕ → List ℕ → Verdict
 asked b l = refuse (eqb b 0) refusal.Budget (refuse (eqb (length l) 0) refusal.List verdict.Done)
 
-pub fits-opened : (g : Given) (p : ℕ) → p ≤ 3 ^ g .n → fits g (openedAt g p) ≡ true
+-- the record at a place up to the end that is told
+pub fits-opened : (g : Given) (p : ℕ) → g .end ≤ 3 ^ g .n → p ≤ g .end → fits g (openedAt g p) ≡ true
 unfolding openedAt
-fits-opened g p h = rw (le-leb p (3 ^ g .n) h) (record-self (openedAt g p))
+fits-opened g p k h = rw (le-leb (g .end) (3 ^ g .n) k, le-leb p (g .end) h) (record-self (openedAt g p))
 
-pub verdict-opened : (g : Given) (p b : ℕ) (l : List ℕ) → Checked g → p ≤ 3 ^ g .n
+pub verdict-opened : (g : Given) (p b : ℕ) (l : List ℕ) → Checked g → g .end ≤ 3 ^ g .n → p ≤ g .end
     → searchVerdict g (openedAt g p) b l ≡ asked b l
-verdict-opened g p b l e h =
+verdict-opened g p b l e k h =
     checked-next g (refuse (not (fits g (openedAt g p))) refusal.Record (asked b l)) e
-    ∙ refusals.refuse-none (not (fits g (openedAt g p))) refusal.Record (asked b l) (ap not (fits-opened g p h))
+    ∙ refusals.refuse-none (not (fits g (openedAt g p))) refusal.Record (asked b l) (ap not (fits-opened g p k h))
 
 -- ---- the verdict on a call, by what its code asks: the table g, record r, budget b, a list of c entries
 module _ (g : Given) (r : Record) (b c : ℕ) where
@@ -86,17 +87,17 @@ module _ (g : Given) (r : Record) (b c : ℕ) where
 pub away : (g : Given) (r : Record) (b : ℕ) (l : List ℕ) (f : Refusal) → searchVerdict g r b l ≡ verdict.Refused f
     → (record { answer = Refused f; «record» = r } ≡ outcomeOf g r b l) × (l ≡ listLeft g r b l)
 away g r b l f e = (
-  sym (ap (λ (v : Verdict). outcomeFrom v r (ranOf g (r .place .0) b (length l))) e),
-  sym (ap (λ (v : Verdict). after v l (listAfter (trailBehind g) b (r .place .0) l)) e),
+  sym (ap (λ (v : Verdict). outcomeFrom v r (ranOf (upTo g r) (r .place .0) b (length l))) e),
+  sym (ap (λ (v : Verdict). after v l (listAfter (trailBehind (upTo g r)) b (r .place .0) l)) e),
 )
 
 -- what nothing refuses runs
 pub went : (g : Given) (r : Record) (b : ℕ) (l : List ℕ) → searchVerdict g r b l ≡ verdict.Done → (o : Outcome) (k : List ℕ)
-    → o ≡ ranOf g (r .place .0) b (length l) → k ≡ listAfter (trailBehind g) b (r .place .0) l
+    → o ≡ ranOf (upTo g r) (r .place .0) b (length l) → k ≡ listAfter (trailBehind (upTo g r)) b (r .place .0) l
     → (o ≡ outcomeOf g r b l) × (k ≡ listLeft g r b l)
 went g r b l d o k eo ek = (
-  eo ∙ sym (ap (λ (v : Verdict). outcomeFrom v r (ranOf g (r .place .0) b (length l))) d),
-  ek ∙ sym (ap (λ (v : Verdict). after v l (listAfter (trailBehind g) b (r .place .0) l)) d),
+  eo ∙ sym (ap (λ (v : Verdict). outcomeFrom v r (ranOf (upTo g r) (r .place .0) b (length l))) d),
+  ek ∙ sym (ap (λ (v : Verdict). after v l (listAfter (trailBehind (upTo g r)) b (r .place .0) l)) d),
 )
 
 -- an answer tells document 01's number and values
@@ -107,5 +108,6 @@ tells-by (verdict.Refused f) e w o = (refl, refl)
 
 pub tells-of : (g : Given) (r : Record) (b : ℕ) (l : List ℕ) (o : Outcome) → o ≡ outcomeOf g r b l → Tells g r b l (o .answer)
 tells-of g r b l o e =
-    let k = tells-by (searchVerdict g r b l) (3 ^ g .n) (reportOf (trailBehind g) b (length l) (r .place .0)) (openedAt g (r .place .0 + pointsIn (trailBehind g) b (length l) (r .place .0))) in
-    record { number = ap (λ (y : Outcome). answerNumber (y .answer)) e ∙ k .0; values = ap (λ (y : Outcome). answerValues (3 ^ g .n) (y .answer)) e ∙ k .1 }
+    let T = trailBehind (upTo g r) in
+    let k = tells-by (searchVerdict g r b l) (r .end .0) (reportOf T b (length l) (r .place .0)) (openedAt (upTo g r) (r .place .0 + pointsIn T b (length l) (r .place .0))) in
+    record { number = ap (λ (y : Outcome). answerNumber (y .answer)) e ∙ k .0; values = ap (λ (y : Outcome). answerValues (r .end .0) (y .answer)) e ∙ k .1 }

@@ -18,10 +18,10 @@ pub record Leaves (g : Given) (p b : ℕ) (l k : List ℕ) (w : Went) : Type 0 w
   pub found : w .found ≡ reportOf (trailBehind g) b (length l) p .found
   pub list : k ≡ listAfter (trailBehind g) b p l
 
--- the outcome of a walk from place p up to place e, with a list of c entries
-abbrev pub reportedOf : ℕ → ℕ → ℕ → Went → Outcome
-reportedOf p e c w =
+-- the outcome of a walk from place p, with a list of c entries
+abbrev pub reportedOf : ℕ → ℕ → Went → Outcome
+reportedOf p c w =
     record {
-      answer = answer.Ran (record { stop = stopFrom (w .«record» .place .0) e (w .found) c; points = w .«record» .place .0 - p; additions = w .additions; found = w .found });
+      answer = answer.Ran (record { stop = stopFrom (w .«record» .place .0) (w .«record» .end .0) (w .found) c; points = w .«record» .place .0 - p; additions = w .additions; found = w .found });
       «record» = w .«record»;
     }

@@ -13,17 +13,17 @@ use Rattle.trits.specs.declared.Vector.{Vector}
 use Rattle.walks.specs.Calls.{Trail, pointsIn, stopNumber, stopPlace, reportOf, listAfter}
 use Rattle.walks.specs.declared.Report.{Report}
 use Rattle.held.specs.Stands.{trailOf}
-use Rattle.given.specs.Given.{Given, depthOf, valuesOf, tableVerdict}
+use Rattle.given.specs.Given.{Given, endingAt, depthOf, valuesOf, tableVerdict}
 use Rattle.opening.specs.declared.Record.{Record}
 use Rattle.search.specs.declared.Answer.{Answer}
 use Rattle.search.specs.declared.Answer.the-variants.{Ran, Refused}
 use Rattle.search.specs.declared.Outcome.{Outcome}
 use Rattle.opening.specs.Opened.{openedAt}
 
--- the walk of the system behind a table (held/specs/Stands): 3^n places; a zero is a common zero of the m equations,
+-- the walk of the system behind a table (held/specs/Stands), up to the end that is told; a zero is a common zero of the m equations,
 -- listed as its point; a place costs an addition for each of its positions, at most as many as the degree
 unfoldable pub trailBehind : Given → Trail
-trailBehind g = trailOf 3 (depthOf (g .degree)) (valuesOf g) (g .n) (g .m) (3 ^ g .n)
+trailBehind g = trailOf 3 (depthOf (g .degree)) (valuesOf g) (g .n) (g .m) (g .end)
 
 -- whether two vectors, two lists and two records are the same
 abbrev pub sameVector : Vector → Vector → Bool
@@ -38,11 +38,15 @@ sameList same (v ∷ vs) (w ∷ ws) = same v w && sameList same vs ws
 unfoldable pub sameRecord : Record → Record → Bool
 sameRecord r s =
     eqb (r .n) (s .n) && eqb (r .m) (s .m) && eqb (r .place .0) (s .place .0) && sameVector (r .value) (s .value)
-    && sameList sameVector (r .slots) (s .slots) && sameList eqb (r .seconds) (s .seconds)
+    && sameList sameVector (r .slots) (s .slots) && sameList eqb (r .seconds) (s .seconds) && eqb (r .end .0) (s .end .0)
 
--- refusal 5: n or m is not the table's, the place is above 3^n, or the record differs from opening at its place
+-- a table, with the end that a record has: a call goes by that, whatever end is told beside the table
+abbrev pub upTo : Given → Record → Given
+upTo g r = endingAt g (r .end .0)
+
+-- refusal 5: n or m is not the table's, the end is above 3^n or below the place, or the record differs from opening at its place and end
 abbrev pub fits : Given → Record → Bool
-fits g r = leb (r .place .0) (3 ^ g .n) && sameRecord r (openedAt g (r .place .0))
+fits g r = leb (r .end .0) (3 ^ g .n) && leb (r .place .0) (r .end .0) && sameRecord r (openedAt (upTo g r) (r .place .0))
 
 -- what a call is refused for, with a list of c entries
 abbrev pub roomVerdict : Given → Record → ℕ → ℕ → Verdict
@@ -67,11 +71,11 @@ abbrev pub outcomeFrom : Verdict → Record → Outcome → Outcome
 outcomeFrom v r o = record { answer = answerFrom v o; «record» = after v r (o .«record») }
 
 abbrev pub outcomeOf : Given → Record → ℕ → List ℕ → Outcome
-outcomeOf g r b l = outcomeFrom (searchVerdict g r b l) r (ranOf g (r .place .0) b (length l))
+outcomeOf g r b l = outcomeFrom (searchVerdict g r b l) r (ranOf (upTo g r) (r .place .0) b (length l))
 
 -- the list that a call leaves: the zeros from the front, the rest as it was
 abbrev pub listLeft : Given → Record → ℕ → List ℕ → List ℕ
-listLeft g r b l = after (searchVerdict g r b l) l (listAfter (trailBehind g) b (r .place .0) l)
+listLeft g r b l = after (searchVerdict g r b l) l (listAfter (trailBehind (upTo g r)) b (r .place .0) l)
 
 -- document 01's number for an answer
 abbrev pub answerNumber : Answer → ℕ
@@ -90,4 +94,4 @@ valuesFrom (verdict.Refused f) e w = []
 
 pub record Tells (g : Given) (r : Record) (b : ℕ) (l : List ℕ) (a : Answer) : Type 0 where
   pub number : answerNumber a ≡ codeOf (searchVerdict g r b l)
-  pub values : answerValues (3 ^ g .n) a ≡ valuesFrom (searchVerdict g r b l) (3 ^ g .n) (reportOf (trailBehind g) b (length l) (r .place .0))
+  pub values : answerValues (r .end .0) a ≡ valuesFrom (searchVerdict g r b l) (r .end .0) (reportOf (trailBehind (upTo g r)) b (length l) (r .place .0))

@@ -17,19 +17,23 @@ ghost use Prim.Native.Nat.{_≤_};
 ghost use lib.ListN.{length};
 ghost use Rattle.walks.specs.Calls.{stopFrom, listAfter};
 ghost use Rattle.given.specs.Given.{tableWith, Checked};
-ghost use Rattle.search.specs.Search.{trailBehind, fits, roomVerdict, ranOf, outcomeOf, listLeft, Tells};
+ghost use Rattle.search.specs.Search.{trailBehind, upTo, fits, roomVerdict, ranOf, outcomeOf, listLeft, Tells};
 ghost use Rattle.search.specs.Parts.{reportedOf};
 
-// Whether a record is that of a checked table at its place.
+// Whether a record is that of a checked table at its place, with its end.
 fn fits_table(degree: Degree, n: u64, m: u64, table: &[u64], r: Record) -> bool
     requires { ⌜ Checked (tableWith degree n m (now table)) ⌝ }
     ensures { λ b. ⌜ b ≡ fits (tableWith degree n m (now (table .entry))) r ⌝ }
 {
     let at = r.place.0;
-    if at > positions::power(n) {
+    let end = r.end.0;
+    if end > positions::power(n) {
         return false;
     }
-    let o = opening::record_at(degree, n, m, table, at);
+    if at > end {
+        return false;
+    }
+    let o = opening::record_at(degree, n, m, table, at, end);
     same_record(r, o)
 }
 
@@ -47,13 +51,13 @@ pub fn stop_of(at: u64, end: u64, found: usize, len: usize) -> Stop
 }
 
 // The outcome of a walk from place `from` that left t.
-fn reported(from: u64, end: u64, len: usize, t: Went) -> Outcome
+fn reported(from: u64, len: usize, t: Went) -> Outcome
     requires { ⌜ from ≤ t .«record» .place .0 ⌝ }
-    ensures { λ o. ⌜ o ≡ reportedOf from end len t ⌝ }
+    ensures { λ o. ⌜ o ≡ reportedOf from len t ⌝ }
 {
     let record = t.record;
     let at = record.place.0;
-    let stop = stop_of(at, end, t.found, len);
+    let stop = stop_of(at, record.end.0, t.found, len);
     Outcome {
         answer: Answer::Ran(Report {
             stop,
@@ -76,14 +80,13 @@ pub fn ran(
     list: &mut [u64],
 ) -> Outcome
     requires { ⌜ Checked (tableWith degree n m (now table)) × (fits (tableWith degree n m (now table)) r ≡ true) ⌝ }
-    ensures { λ o. ⌜ (o ≡ ranOf (tableWith degree n m (now (table .entry))) (r .place .0) budget (length (now (list .entry))))
-        × (now (list .exit) ≡ listAfter (trailBehind (tableWith degree n m (now (table .entry)))) budget (r .place .0) (now (list .entry))) ⌝ }
+    ensures { λ o. ⌜ (o ≡ ranOf (upTo (tableWith degree n m (now (table .entry))) r) (r .place .0) budget (length (now (list .entry))))
+        × (now (list .exit) ≡ listAfter (trailBehind (upTo (tableWith degree n m (now (table .entry))) r)) budget (r .place .0) (now (list .entry))) ⌝ }
 {
     let from = r.place.0;
-    let end = positions::power(n);
     let len = list.len();
-    let t = walked(degree, n, m, table, end, r, budget, list);
-    reported(from, end, len, t)
+    let t = walked(degree, n, m, table, r, budget, list);
+    reported(from, len, t)
 }
 
 // A refusal: the record is as it was.
@@ -140,7 +143,7 @@ pub fn judged(
     }
 }
 
-// One call: at most budget points from the record's place on, each common zero's point listed from the front of list.
+// One call: at most budget points from the record's place on, up to its end, each common zero's point listed from the front of list.
 pub fn search(
     degree: Degree,
     n: u64,

@@ -69,5 +69,8 @@ pub(crate) fn same_record(a: Record, b: Record) -> bool
     }
     let x = a.seconds;
     let y = b.seconds;
-    same_seconds(x, y)
+    if !same_seconds(x, y) {
+        return false;
+    }
+    a.end.0 == b.end.0
 }

@@ -4,9 +4,8 @@ use gray::Place;
 use opening::Record;
 ghost use mathlib.Core.Path.{_≡_};
 ghost use mathlib.Core.Bool.{true};
-ghost use Prim.Native.Nat.{_^_};
 ghost use Rattle.given.specs.Given.{tableWith, quadratic, cubic, Checked};
-ghost use Rattle.search.specs.Search.{fits};
+ghost use Rattle.search.specs.Search.{upTo, fits};
 ghost use Rattle.search.specs.Parts.{Leaves};
 
 // What a walk left: the record moved on, the additions made and the zeros found.
@@ -21,17 +20,17 @@ fn walked_two(
     n: u64,
     m: u64,
     table: &[u64],
-    end: u64,
     r: Record,
     budget: u64,
     list: &mut [u64],
 ) -> Went
-    requires { ⌜ Checked (quadratic n m (now table)) × (fits (quadratic n m (now table)) r ≡ true) × (end ≡ 3 ^ n) ⌝ }
-    ensures { λ w. ⌜ Leaves (quadratic n m (now (table .entry))) (r .place .0) budget (now (list .entry)) (now (list .exit)) w ⌝ }
+    requires { ⌜ Checked (quadratic n m (now table)) × (fits (quadratic n m (now table)) r ≡ true) ⌝ }
+    ensures { λ w. ⌜ Leaves (upTo (quadratic n m (now (table .entry))) r) (r .place .0) budget (now (list .entry)) (now (list .exit)) w ⌝ }
 {
     let value = r.value;
     let slots = r.slots;
     let seconds = r.seconds;
+    let end = r.end.0;
     let w = walk::Walker {
         place: r.place.0,
         value,
@@ -49,6 +48,7 @@ fn walked_two(
             value,
             slots,
             seconds,
+            end: Place(end),
         },
         additions: t.additions,
         found: t.found,
@@ -60,17 +60,17 @@ fn walked_three(
     n: u64,
     m: u64,
     table: &[u64],
-    end: u64,
     s: Record,
     budget: u64,
     list: &mut [u64],
 ) -> Went
-    requires { ⌜ Checked (cubic n m (now table)) × (fits (cubic n m (now table)) s ≡ true) × (end ≡ 3 ^ n) ⌝ }
-    ensures { λ w. ⌜ Leaves (cubic n m (now (table .entry))) (s .place .0) budget (now (list .entry)) (now (list .exit)) w ⌝ }
+    requires { ⌜ Checked (cubic n m (now table)) × (fits (cubic n m (now table)) s ≡ true) ⌝ }
+    ensures { λ w. ⌜ Leaves (upTo (cubic n m (now (table .entry))) s) (s .place .0) budget (now (list .entry)) (now (list .exit)) w ⌝ }
 {
     let value = s.value;
     let slots = s.slots;
     let seconds = s.seconds;
+    let end = s.end.0;
     let w = cubic_walk::Walker {
         place: s.place.0,
         value,
@@ -90,6 +90,7 @@ fn walked_three(
             value,
             slots,
             seconds,
+            end: Place(end),
         },
         additions: t.additions,
         found: t.found,
@@ -102,16 +103,15 @@ pub(crate) fn walked(
     n: u64,
     m: u64,
     table: &[u64],
-    end: u64,
     r: Record,
     budget: u64,
     list: &mut [u64],
 ) -> Went
-    requires { ⌜ Checked (tableWith degree n m (now table)) × (fits (tableWith degree n m (now table)) r ≡ true) × (end ≡ 3 ^ n) ⌝ }
-    ensures { λ w. ⌜ Leaves (tableWith degree n m (now (table .entry))) (r .place .0) budget (now (list .entry)) (now (list .exit)) w ⌝ }
+    requires { ⌜ Checked (tableWith degree n m (now table)) × (fits (tableWith degree n m (now table)) r ≡ true) ⌝ }
+    ensures { λ w. ⌜ Leaves (upTo (tableWith degree n m (now (table .entry))) r) (r .place .0) budget (now (list .entry)) (now (list .exit)) w ⌝ }
 {
     match degree {
-        Degree::Two => walked_two(n, m, table, end, r, budget, list),
-        Degree::Three => walked_three(n, m, table, end, r, budget, list),
+        Degree::Two => walked_two(n, m, table, r, budget, list),
+        Degree::Three => walked_three(n, m, table, r, budget, list),
     }
 }

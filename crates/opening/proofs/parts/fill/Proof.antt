@@ -58,7 +58,7 @@ returns c =
     let n = s .args .n in
     let m = s .args .m in
     let t = s .args .table .now in
-    opened-from n m t _ (s .args .place) _ _ _ (λ k. getD (c .before .before .before .before .before .before .before .before .before .digits-at .result) k 0)
+    opened-from n m t _ (s .args .place) (s .args .end) _ _ _ (λ k. getD (c .before .before .before .before .before .before .before .before .before .digits-at .result) k 0)
     (c .before .before .before .before .before .before .before .coefficients-into .ensures m (table-of n m t (s .pre .0)))
     (c .before .before .before .before .before .before .before .before .before .before .latest-place .ensures) (λ k h. c .before .before .before .before .before .before .before .before .before .digits-at .ensures .0 k (omega arith) h) (c .before .before .value-at .ensures) (c .slots .ensures)
 

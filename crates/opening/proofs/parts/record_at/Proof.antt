@@ -1,7 +1,7 @@
 -- `opening::parts::record_at` meets its contract: by the degree.
 use mathlib.Core.Path.{_≡_, sym, ap, subst, _∙_}
 use Rattle.given.specs.declared.Degree.{Degree}
-use Rattle.given.specs.Given.{tableWith, Checked}
+use Rattle.given.specs.Given.{tableWith, endingAt, Checked}
 use Rattle.opening.specs.Opened.{openedAt}
 use borrow.Author.Needs.{needs}
 use Rattle.opening.proofs.parts.record_at.Statement.{statement}
@@ -36,14 +36,14 @@ returns : tie.Need-returns
 returns c =
     let a = c .before .before .before .before .args in
     let x = c .record-two in
-    x .ensures ∙ sym (ap (λ (d : Degree). openedAt (tableWith d (a .n) (a .m) (a .table .now)) (a .place)) (c .before .enum-told .given .1))
+    x .ensures ∙ sym (ap (λ (d : Degree). openedAt (endingAt (tableWith d (a .n) (a .m) (a .table .now)) (a .end)) (a .place)) (c .before .enum-told .given .1))
 
 -- src/parts.rt:149:1
 returns-2 : tie.Need-returns-2
 returns-2 c =
     let a = c .before .before .before .before .args in
     let y = c .record-three in
-    y .ensures ∙ sym (ap (λ (d : Degree). openedAt (tableWith d (a .n) (a .m) (a .table .now)) (a .place)) (c .before .enum-told2 .given .1))
+    y .ensures ∙ sym (ap (λ (d : Degree). openedAt (endingAt (tableWith d (a .n) (a .m) (a .table .now)) (a .end)) (a .place)) (c .before .enum-told2 .given .1))
 
 pub record-at-spec : {M : Type 1} → statement M
 record-at-spec =

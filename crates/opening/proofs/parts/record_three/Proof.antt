@@ -31,7 +31,7 @@ returns c =
     let n = s .args .n in
     let m = s .args .m in
     let t = s .args .table .now in
-    opened-three n m t (s .args .place) _ (c .before .before .before .stood-at .result) (c .before .before .before .before .latest-place .ensures) (c .before .before .before .stood-at .ensures m (cubic-table-of n m t (s .pre .0)))
+    opened-three n m t (s .args .place) (s .args .end) _ (c .before .before .before .stood-at .result) (c .before .before .before .before .latest-place .ensures) (c .before .before .before .stood-at .ensures m (cubic-table-of n m t (s .pre .0)))
 
 pub record-three-spec : {M : Type 1} → statement M
 record-three-spec = tie.close (tie.spec latest-place-requires stood-at-requires returns)

@@ -1,6 +1,7 @@
 -- `search::records::same_record` meets its contract: field by field.
 use mathlib.Core.Path.{_≡_, refl, sym, ap, _∙_}
 use mathlib.Core.Bool.{Bool, true, false}
+use lib.Dec.{eqb}
 use borrow.Author.Tests.{eq-eqb, ne-eqb, not-true, not-false}
 use Rattle.search.specs.Search.{sameVector, sameList, sameRecord}
 use borrow.Author.Needs.{needs}
@@ -57,10 +58,20 @@ same-seconds-requires c κs = search needs
 returns-6 : tie.Need-returns-6
 unfolding sameRecord
 returns-6 c =
-    let a = c .before .before .before .before .before .before .before .before .before .before .before .before .before .before .before .before .before .before .before .before .args in
-    let e4 : sameVector (a .a .value) (a .b .value) ≡ true = sym (c .before .before .before .before .before .before .before .before .same-vector .ensures) ∙ not-false _ (c .before .before .before .before .before .before .before .if4 .left) in
-    let e5 : sameList sameVector (a .a .slots) (a .b .slots) ≡ true = sym (c .before .before .before .before .same-slots .ensures) ∙ not-false _ (c .before .before .before .if5 .left) in
-    rw (eq-eqb _ _ (c .before .before .before .before .before .before .before .before .before .before .before .before .before .before .before .before .before .if1 .left), eq-eqb _ _ (c .before .before .before .before .before .before .before .before .before .before .before .before .before .before .if2 .left), eq-eqb _ _ (c .before .before .before .before .before .before .before .before .before .before .before .if3 .left), e4, e5) (c .same-seconds .ensures)
+    let a = c .before .before .before .before .before .before .before .before .before .before .before .before .before .before .before .before .before .before .before .before .before .args in
+    let e4 : sameVector (a .a .value) (a .b .value) ≡ true = sym (c .before .before .before .before .before .before .before .before .before .same-vector .ensures) ∙ not-false _ (c .before .before .before .before .before .before .before .before .if4 .left) in
+    let e5 : sameList sameVector (a .a .slots) (a .b .slots) ≡ true = sym (c .before .before .before .before .before .same-slots .ensures) ∙ not-false _ (c .before .before .before .before .if5 .left) in
+    let e6 : sameList eqb (a .a .seconds) (a .b .seconds) ≡ false = sym (c .before .same-seconds .ensures) ∙ not-true _ (c .if6 .taken) in
+    rw (eq-eqb _ _ (c .before .before .before .before .before .before .before .before .before .before .before .before .before .before .before .before .before .before .if1 .left), eq-eqb _ _ (c .before .before .before .before .before .before .before .before .before .before .before .before .before .before .before .if2 .left), eq-eqb _ _ (c .before .before .before .before .before .before .before .before .before .before .before .before .if3 .left), e4, e5, e6)
+
+returns-7 : tie.Need-returns-7
+unfolding sameRecord
+returns-7 c =
+    let a = c .before .before .before .before .before .before .before .before .before .before .before .before .before .before .before .before .before .before .before .before .before .before .before .args in
+    let e4 : sameVector (a .a .value) (a .b .value) ≡ true = sym (c .before .before .before .before .before .before .before .before .before .before .before .same-vector .ensures) ∙ not-false _ (c .before .before .before .before .before .before .before .before .before .before .if4 .left) in
+    let e5 : sameList sameVector (a .a .slots) (a .b .slots) ≡ true = sym (c .before .before .before .before .before .before .before .same-slots .ensures) ∙ not-false _ (c .before .before .before .before .before .before .if5 .left) in
+    let e6 : sameList eqb (a .a .seconds) (a .b .seconds) ≡ true = sym (c .before .before .before .same-seconds .ensures) ∙ not-false _ (c .before .before .if6 .left) in
+    rw (eq-eqb _ _ (c .before .before .before .before .before .before .before .before .before .before .before .before .before .before .before .before .before .before .before .before .if1 .left), eq-eqb _ _ (c .before .before .before .before .before .before .before .before .before .before .before .before .before .before .before .before .before .if2 .left), eq-eqb _ _ (c .before .before .before .before .before .before .before .before .before .before .before .before .before .before .if3 .left), e4, e5, e6)
 
 pub same-record-spec : {M : Type 1} → statement M
 same-record-spec =
@@ -74,4 +85,5 @@ same-record-spec =
     same-slots-requires
     returns-5
     same-seconds-requires
-    returns-6)
+    returns-6
+    returns-7)

@@ -22,7 +22,7 @@ walked-two-requires : tie.Need-walked-two-requires
 walked-two-requires c κs =
     let s = c .before .before .before .before .before in
     let e = c .before .enum-told .given .1 in
-    (subst (λ (d : Degree). Checked (tableWith d (s .args .n) (s .args .m) (s .args .table .now))) e (s .pre .0), subst (λ (d : Degree). fits (tableWith d (s .args .n) (s .args .m) (s .args .table .now)) (s .args .r) ≡ true) e (s .pre .1), s .pre .2)
+    (subst (λ (d : Degree). Checked (tableWith d (s .args .n) (s .args .m) (s .args .table .now))) e (s .pre .0), subst (λ (d : Degree). fits (tableWith d (s .args .n) (s .args .m) (s .args .table .now)) (s .args .r) ≡ true) e (s .pre .1))
 
 -- src/walked.rt:115:68
 enum-told-2 : tie.Need-enum-told-2
@@ -33,7 +33,7 @@ walked-three-requires : tie.Need-walked-three-requires
 walked-three-requires c κs =
     let s = c .before .before .before .before .before in
     let e = c .before .enum-told2 .given .1 in
-    (subst (λ (d : Degree). Checked (tableWith d (s .args .n) (s .args .m) (s .args .table .now))) e (s .pre .0), subst (λ (d : Degree). fits (tableWith d (s .args .n) (s .args .m) (s .args .table .now)) (s .args .r) ≡ true) e (s .pre .1), s .pre .2)
+    (subst (λ (d : Degree). Checked (tableWith d (s .args .n) (s .args .m) (s .args .table .now))) e (s .pre .0), subst (λ (d : Degree). fits (tableWith d (s .args .n) (s .args .m) (s .args .table .now)) (s .args .r) ≡ true) e (s .pre .1))
 
 -- src/walked.rt:100:1
 same-length : tie.Need-same-length
@@ -44,7 +44,7 @@ returns : tie.Need-returns
 returns c =
     let s = c .before .before .before .before .before .before .before .before in
     let x = c .before .before .walked-two in
-    leaves-by _ _ (c .before .before .before .before .enum-told .given .1) (s .args .n) (s .args .m) (s .args .table .now) (s .args .r .place .0) (s .args .budget) (s .args .list .now) _ (x .result) (x .ensures)
+    leaves-by _ _ (c .before .before .before .before .enum-told .given .1) (s .args .n) (s .args .m) (s .args .table .now) (s .args .r .end .0) (s .args .r .place .0) (s .args .budget) (s .args .list .now) _ (x .result) (x .ensures)
 
 -- src/walked.rt:100:1
 same-length-2 : tie.Need-same-length-2
@@ -55,7 +55,7 @@ returns-2 : tie.Need-returns-2
 returns-2 c =
     let s = c .before .before .before .before .before .before .before .before in
     let y = c .before .before .walked-three in
-    leaves-by _ _ (c .before .before .before .before .enum-told2 .given .1) (s .args .n) (s .args .m) (s .args .table .now) (s .args .r .place .0) (s .args .budget) (s .args .list .now) _ (y .result) (y .ensures)
+    leaves-by _ _ (c .before .before .before .before .enum-told2 .given .1) (s .args .n) (s .args .m) (s .args .table .now) (s .args .r .end .0) (s .args .r .place .0) (s .args .budget) (s .args .list .now) _ (y .result) (y .ensures)
 
 pub walked-spec : {M : Type 1} → statement M
 walked-spec =
