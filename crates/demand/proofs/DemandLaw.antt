@@ -9,7 +9,7 @@ use native.Mathlib.Omega.{arith}
 use Rattle.gray.specs.Numbers.{digit, pointDigit, pointOf}
 use Rattle.gray.proofs.MapLaw.{point-lt, point-digit, point-same, point-onto}
 use Rattle.walks.specs.Calls.{Trail, costIn}
-use Rattle.walks.specs.Runs.{Request, Sums, SaysEnded, WholeRun, askedIn}
+use Rattle.walks.specs.Runs.{Request, Sums, SaysEnded, Serves, WholeRun, askedIn}
 use Rattle.walks.specs.Zeros.{Distinct, placesIn}
 use Rattle.walks.specs.Cost.{costOf}
 use Rattle.walks.proofs.RunsLaw.{Adds, sums-are, ended-iff, calls-enough, calls-end, whole-run, run-once}
@@ -41,9 +41,9 @@ module _ (g : Given) where
   T = trailBehind g
 
   -- the walk's entries and costs
-  pub distinct : Distinct T
+  pub distinct : g .end ≤ 3 ^ g .n → Distinct T
   unfolding trailBehind
-  distinct a b ha hb e = point-same 3 two (g .n) a b ha hb e
+  distinct far a b ha hb e = point-same 3 two (g .n) a b (omega (arith, ha, far)) (omega (arith, hb, far)) e
 
   pub cost-all : costIn T 0 (3 ^ g .n) ≡ allAdditions g
   unfolding trailBehind costOf
@@ -53,10 +53,10 @@ module _ (g : Given) where
   value-point : (e p : ℕ) → valuesOf g e (pointDigit 3 p) ≡ valuesOf g e (digit 3 (pointOf 3 (g .n) p))
   value-point e p = values-at g e (pointDigit 3 p) (digit 3 (pointOf 3 (g .n) p)) (λ k h. sym (point-digit 3 two (g .n) p k h))
 
-  -- a point is listed for a place of the walk exactly if it is a common zero
-  pub zero-iff : (x : ℕ) → ((a : ℕ) × (a < T .end) × (T .zeroAt a ≡ true) × (T .entry a ≡ x)) ↔ CommonZero g x
+  -- a point is listed for a place of the whole walk exactly if it is a common zero
+  pub zero-iff : g .end ≡ 3 ^ g .n → (x : ℕ) → ((a : ℕ) × (a < T .end) × (T .zeroAt a ≡ true) × (T .entry a ≡ x)) ↔ CommonZero g x
   unfolding trailBehind
-  zero-iff x = (
+  zero-iff whole x = (
     λ z. record {
       point = rw (sym (z .3)) (point-lt 3 two (g .n) (z .0));
       zero = λ e h. ap (λ (y : ℕ). valuesOf g e (digit 3 y) % 3) (sym (z .3)) ∙ ap (λ (y : ℕ). y % 3) (sym (value-point e (z .0)))
@@ -64,27 +64,33 @@ module _ (g : Given) where
     },
     λ c. let o = point-onto 3 two (g .n) x (c .point) in (
       o .0,
-      o .1,
+      omega (arith, o .1, whole),
       all-zeros 3 (g .m) (λ e. valuesOf g e (pointDigit 3 (o .0)))
           (λ e h. ap (λ (y : ℕ). y % 3) (value-point e (o .0)) ∙ ap (λ (y : ℕ). valuesOf g e (digit 3 y) % 3) (o .2) ∙ c .zero e h),
       o .2,
     ),
   )
 
-  in-order : map (T .entry) (placesIn T 0 (T .end)) ≡ map (pointOf 3 (g .n)) (placesIn T 0 (3 ^ g .n))
-  unfolding trailBehind
-  in-order = refl
+  -- ---- runs of calls on the whole walk
+  module _ (whole : g .end ≡ 3 ^ g .n) (ok : Checked g) (qs : List Request) where
+    end-all : T .end ≡ 3 ^ g .n
+    end-all = end-is g ∙ whole
 
-  some-places : 0 < T .end
-  unfolding trailBehind
-  some-places = one-le-pow (g .n) 3 (omega arith)
+    in-order : map (T .entry) (placesIn T 0 (T .end)) ≡ map (pointOf 3 (g .n)) (placesIn T 0 (3 ^ g .n))
+    unfolding trailBehind
+    in-order = ap (λ (x : ℕ). map (pointOf 3 (g .n)) (placesIn T 0 x)) whole
 
-  module _ (ok : Checked g) (qs : List Request) where
+    some-places : 0 < T .end
+    some-places = omega (arith, end-all, one-le-pow (g .n) 3 (omega arith))
+
+    served : Serves T (openedAt g) (callOf g)
+    served = serves g ok (omega (arith, whole))
+
     abbrev given : Sums Record
     given = fromStart g qs
 
     sums : Adds T (openedAt g) (callOf g) 0 (openedAt g 0) qs
-    sums = sums-are T (openedAt g) (callOf g) (serves g ok) 0 qs (omega arith)
+    sums = sums-are T (openedAt g) (callOf g) served 0 qs (omega arith)
 
     -- the record's place is the number of points told
     pub place-is : given .last .place .0 ≡ given .points
@@ -94,27 +100,26 @@ module _ (g : Given) where
     -- the last answer is "ended" exactly where the record has come to place 3^n
     pub ended-is : SaysEnded (given .told) ↔ (given .last .place .0 ≡ 3 ^ g .n)
     ended-is =
-        let i = ended-iff T (openedAt g) (callOf g) (serves g ok) 0 qs some-places in
-        (λ e. place-is ∙ sym (zero-add _) ∙ i .0 e ∙ end-is g, λ e. i .1 (zero-add _ ∙ sym place-is ∙ e ∙ sym (end-is g)))
+        let i = ended-iff T (openedAt g) (callOf g) served 0 qs some-places in
+        (λ e. place-is ∙ sym (zero-add _) ∙ i .0 e ∙ end-all, λ e. i .1 (zero-add _ ∙ sym place-is ∙ e ∙ sym end-all))
 
     -- demand 3
     pub whole-walk : SaysEnded (given .told) → WholeWalk g qs
     whole-walk e =
-        let d : WholeRun T (openedAt g) (callOf g) qs = whole-run T (openedAt g) (callOf g) (serves g ok) qs some-places e in
+        let d : WholeRun T (openedAt g) (callOf g) qs = whole-run T (openedAt g) (callOf g) served qs some-places e in
         record {
           each = d .each;
-          last = d .last ∙ ap (openedAt g) (end-is g);
-          all = λ x. trans-iff (d .all x) (zero-iff x);
-          once = run-once T (openedAt g) (callOf g) qs d distinct;
+          last = d .last ∙ ap (openedAt g) end-all;
+          all = λ x. trans-iff (d .all x) (zero-iff whole x);
+          once = run-once T (openedAt g) (callOf g) qs d (distinct (omega (arith, whole)));
           order = d .order ∙ in-order;
-          points = d .points ∙ end-is g;
-          additions = d .additions ∙ ap (costIn T 0) (end-is g) ∙ cost-all;
+          points = d .points ∙ end-all;
+          additions = d .additions ∙ ap (costIn T 0) end-all ∙ cost-all;
         }
 
     -- a run with as many requests that ask for something as there are points has ended
     pub always-ends : 3 ^ g .n ≤ askedIn qs → SaysEnded (given .told)
     always-ends l =
-        let s = serves g ok in
-        let k : T .end - 0 ≤ askedIn qs = omega (arith, end-is g) in
-        let c = calls-enough T (openedAt g) (callOf g) s 0 qs (willing g ok) (omega arith) k in
-        ended-iff T (openedAt g) (callOf g) s 0 qs some-places .1 (calls-end T (openedAt g) (callOf g) s 0 qs (omega arith) c)
+        let k : T .end - 0 ≤ askedIn qs = omega (arith, end-all) in
+        let c = calls-enough T (openedAt g) (callOf g) served 0 qs (willing g ok (omega (arith, whole))) (omega arith) k in
+        ended-iff T (openedAt g) (callOf g) served 0 qs some-places .1 (calls-end T (openedAt g) (callOf g) served 0 qs (omega arith) c)

@@ -47,7 +47,7 @@ use Rattle.walks.specs.Zeros.{Rising, placesIn}
 use Rattle.walks.proofs.ZeroLaw.{places-in, places-rise}
 use Rattle.given.specs.declared.Degree.{Degree}
 use Rattle.given.specs.declared.Degree.the-variants.{Two, Three}
-use Rattle.given.specs.Given.{Given, countIn, behind, cubicBehind, valuesIn, valuesOf, Checked}
+use Rattle.given.specs.Given.{Given, countIn, tableWith, behind, cubicBehind, valuesIn, valuesOf, Checked}
 use Rattle.given.proofs.TableLaw.{checked-if}
 use Rattle.given.proofs.ValuesLaw.{value-agree, cubic-agree}
 use Rattle.operations.specs.Operations.{packing, packedInto, copying, differencesInto}
@@ -244,20 +244,20 @@ module _ (d : Degree) (n m : ℕ) (rows : List ℤ) (c t : List ℕ) (ok : packi
       ∙ copy-done (countIn d n) m words t (a .size) room (countIn d n) (sym (front-whole m (countIn d n) words (a .size) .1 (a .legal))) (omega arith)
 
   table-is : tableFrom d n m rows c t ≡ g
-  table-is = ap (λ (w : List ℕ). record { n = n; m = m; degree = d; words = w }) (differences-are d n m rows (packedInto d n m rows c) t left copies)
+  table-is = ap (tableWith d n m) (differences-are d n m rows (packedInto d n m rows c) t left copies)
 
   checked : Checked g
   checked = made-checked d n m rows inside
 
   opens : openVerdict g 0 ≡ verdict.Done
-  opens = verdict-done g 0 checked (omega arith)
+  opens = verdict-done g 0 checked (omega arith) (omega arith)
 
   opened-is : openOf g 0 .«record» ≡ openedAt g 0
   opened-is = ap (λ (v : Verdict). after v noRecord (openedAt g 0)) opens
 
   whole : (qs : List Request) → SaysEnded (fromStart g qs .told) → ListsZeros d n m rows (fromStart g qs .listed)
   whole qs e =
-      let w = whole-walk g checked qs e in
+      let w = whole-walk g refl checked qs e in
       let T = trailBehind g in
       let b : map (placeOf 3 n) (fromStart g qs .listed) ≡ placesIn T 0 (3 ^ n)
       = ap (map (placeOf 3 n)) (w .order) ∙ places-back n (placesIn T 0 (3 ^ n)) (λ i l. omega (arith, places-in T 0 (3 ^ n) i l .below)) in

@@ -1,4 +1,4 @@
--- The search of a checked table serves the walk of its system: from the record at a place a call is refused for its budget or its list
+-- The search of a checked table serves the walk of its system, up to any end within 3^n: from the record at a place a call is refused for its budget or its list
 -- and changes nothing, or it is a call on the walk.
 use mathlib.Core.Path.{_≡_, refl, ap, _∙_}
 use mathlib.Core.Bool.{Bool, true, false}
@@ -34,17 +34,17 @@ asked-by : (q : Request) (x y : Bool) → eqb (q .budget) 0 ≡ x → eqb (lengt
 asked-by q x y b c = ap (λ (z : Bool). refuse z refusal.Budget (refuse (eqb (length (q .list)) 0) refusal.List verdict.Done)) b
     ∙ ap (λ (z : Bool). refuse x refusal.Budget (refuse z refusal.List verdict.Done)) c
 
-module _ (g : Given) (ok : Checked g) where
+module _ (g : Given) (ok : Checked g) (far : g .end ≤ 3 ^ g .n) where
   abbrev T : Trail
   T = trailBehind g
 
-  call-by : (p : ℕ) (q : Request) (v : Verdict) → p ≤ 3 ^ g .n → asked (q .budget) (q .list) ≡ v
+  call-by : (p : ℕ) (q : Request) (v : Verdict) → p ≤ g .end → asked (q .budget) (q .list) ≡ v
       → callOf g (openedAt g p) q
       ≡ replyFrom v (openedAt g p) (reportOf T (q .budget) (length (q .list)) p) (openedAt g (p + pointsIn T (q .budget) (length (q .list)) p)) (q .list) (listAfter T (q .budget) p (q .list))
   unfolding callOf openedAt
   call-by p q v h e =
       ap (λ (v : Verdict). replyFrom v (openedAt g p) (reportOf T (q .budget) (length (q .list)) p) (openedAt g (p + pointsIn T (q .budget) (length (q .list)) p)) (q .list) (listAfter T (q .budget) p (q .list)))
-      (verdict-opened g p (q .budget) (q .list) ok h ∙ e)
+      (verdict-opened g p (q .budget) (q .list) ok far h ∙ e)
 
   -- a request that asks for something runs
   pub willing : Willing T (openedAt g) (callOf g)

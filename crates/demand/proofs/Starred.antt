@@ -48,7 +48,7 @@ module _ (n : ℕ) (c : List ℤ) (w : Within n 1) where
 
   runs : (p : ℕ) (q : Request) → p ≤ 3 ^ n → Asks q → callOf g (openedAt g p) q ≡ ranBy T (openedAt g) p q
   unfolding trailBehind
-  runs p q h a = willing g (made-checked Three n 1 c w) p q h a ∙ ap (λ (T : Trail). ranBy T (openedAt g) p q) (walk-rows Three n 1 c)
+  runs p q h a = willing g (made-checked Three n 1 c w) (omega arith) p q h a ∙ ap (λ (T : Trail). ranBy T (openedAt g) p q) (walk-rows Three n 1 c)
 
   first : (b k : ℕ) → Asks (ask b k) → (l : List ℤ) → numbers (ranBy T (openedAt g) 0 (ask b k)) ≡ l → call Three n c b k ≡ l
   first b k a l e = ap numbers (runs 0 (ask b k) (omega arith) a) ∙ e

@@ -1,4 +1,4 @@
--- Demand 3: what any run of calls gives that begins at place 0 of a checked table and whose last answer is "ended".
+-- Demand 3: what any run of calls gives that begins at place 0 of a checked table with the end 3^n and whose last answer is "ended".
 use mathlib.Core.Path.{_≡_}
 use mathlib.Core.Logic.{_↔_}
 use mathlib.Core.List.{List, map}

@@ -26,15 +26,15 @@ use Rattle.walks.proofs.RunsLaw.{whole-run, run-once}
 use Rattle.codec.specs.Codec.{wordsIn, bytesFrom, pasted}
 use Rattle.codec.proofs.CodecLaw.{length-from}
 use Rattle.given.specs.declared.Degree.{Degree}
-use Rattle.given.specs.Given.{Given, tableWith}
+use Rattle.given.specs.Given.{Given, tableWith, endingAt}
 use Rattle.given.proofs.TableLaw.{within, power-small}
 use Rattle.opening.specs.declared.Record.{Record}
 use Rattle.opening.specs.Opened.{openedAt}
 use Rattle.search.specs.declared.Answer.the-variants.{Ran}
 use Rattle.search.specs.declared.Outcome.{Outcome}
-use Rattle.search.specs.Search.{trailBehind, searchVerdict, ranOf, outcomeFrom, answerValues}
+use Rattle.search.specs.Search.{trailBehind, upTo, searchVerdict, ranOf, outcomeFrom, answerValues}
 use Rattle.search.proofs.VerdictLaw.{asked, verdict-opened}
-use Rattle.search.proofs.TrailLaw.{end-is, entry-lt, cost-three, place-opened}
+use Rattle.search.proofs.TrailLaw.{end-is, entry-lt, cost-three, place-opened, end-opened}
 use Rattle.demand.proofs.DemandLaw.{trans-iff, distinct, cost-all, zero-iff}
 use Rattle.lists.specs.Listed.{foundIn, listIn}
 use Rattle.wire.specs.Wire.{recordIn, recordWords}
@@ -65,22 +65,27 @@ module _ (g : Given) (answers : List ℕ → Request → List ℕ) (lent : Lent 
   place-small : (p : ℕ) → p ≤ 3 ^ g .n → 3 * p < 2 ^ 64
   place-small p h = omega (arith, h, power-small t (lent .checked))
 
-  at-long : (p : ℕ) → length (at p) ≡ 3720
+  at-long : (p : ℕ) → length (at p) ≡ 3728
   unfolding recordAt
   at-long p = record-bytes t p
 
-  at-back : (p : ℕ) → p ≤ 3 ^ g .n → recordIn (at p) ≡ openedAt t p
+  at-back : (p : ℕ) → p ≤ g .end → recordIn (at p) ≡ openedAt t p
   unfolding recordAt
-  at-back p h = record-back t (limits .wide) (omega (arith, limits .most)) p (omega (arith, place-small p h))
+  at-back p h =
+      let s = place-small (g .end) (lent .far) in
+      record-back t (limits .wide) (omega (arith, limits .most)) (omega (arith, s)) p (omega (arith, h, s))
 
-  -- the call reads the table in its degree
-  reads : (p : ℕ) → p ≤ 3 ^ g .n → called g (at p) ≡ g
+  end-back : (p : ℕ) → p ≤ g .end → recordIn (at p) .end .0 ≡ g .end
+  end-back p h = ap (λ (r : Record). r .end .0) (at-back p h) ∙ end-opened t p
+
+  -- the call reads the table in its degree; it is told no end
+  reads : (p : ℕ) → p ≤ g .end → called g (at p) ≡ endingAt g (3 ^ g .n)
   reads p h =
       let w = length (g .words) / 8 in
       ap (λ (d : Degree). tableWith d (g .n) (g .m) (g .words)) (ap (readingOf (g .n) w) (at-back p h) ∙ reading-opened t w p (lent .degree))
 
   -- ---- one call, from the record at place p, on a list of words
-  module _ (p : ℕ) (h : p ≤ 3 ^ g .n) (q : Request) (words : areWords (q .list) ≡ true) where
+  module _ (p : ℕ) (h : p ≤ g .end) (q : Request) (words : areWords (q .list) ≡ true) where
     abbrev l : List ℕ
     l = q .list
 
@@ -94,7 +99,7 @@ module _ (g : Given) (answers : List ℕ → Request → List ℕ) (lent : Lent 
     list-back = words-back l (are-below l words)
 
     said : searchVerdict t (recordIn (at p)) b (wordsIn (bytesFrom l)) ≡ asked b l
-    said = ap₂ (λ (r : Record) (x : List ℕ). searchVerdict t r b x) (at-back p h) list-back ∙ verdict-opened t p b l (lent .checked) h
+    said = ap₂ (λ (r : Record) (x : List ℕ). searchVerdict t r b x) (at-back p h) list-back ∙ verdict-opened t p b l (lent .checked) (lent .far) h
 
     judged : callVerdict g (at p) b (bytesFrom l) answer ≡ asked b l
     judged =
@@ -107,7 +112,7 @@ module _ (g : Given) (answers : List ℕ → Request → List ℕ) (lent : Lent 
     abbrev replyFrom : Verdict → Outcome → List ℕ → Reply (List ℕ)
     replyFrom v o new =
         record {
-          told = toldBy (codeOf v) (after v answer (bytesFrom (answerValues (3 ^ g .n) (o .answer))));
+          told = toldBy (codeOf v) (after v answer (bytesFrom (answerValues (recordIn (at p) .end .0) (o .answer))));
           state = after v (at p) (bytesFrom (recordWords (o .«record»)));
           list = wordsIn (after v (bytesFrom l) new);
         }
@@ -127,31 +132,34 @@ module _ (g : Given) (answers : List ℕ → Request → List ℕ) (lent : Lent 
 
     ran-outcome : asked b l ≡ verdict.Done → doneOf g (at p) b (bytesFrom l) ≡ ranOf t p b (length l)
     ran-outcome e =
-        ap₂ (λ (r : Record) (x : List ℕ). outcomeFrom (searchVerdict t r b x) r (ranOf t (r .place .0) b (length x))) (at-back p h) list-back
-        ∙ ap (λ (v : Verdict). outcomeFrom v (openedAt t p) (ranOf t (openedAt t p .place .0) b (length l))) (verdict-opened t p b l (lent .checked) h ∙ e)
-        ∙ ap (λ (x : ℕ). ranOf t x b (length l)) (place-opened t p)
+        ap₂ (λ (r : Record) (x : List ℕ). outcomeFrom (searchVerdict t r b x) r (ranOf (upTo t r) (r .place .0) b (length x))) (at-back p h) list-back
+        ∙ ap (λ (v : Verdict). outcomeFrom v (openedAt t p) (ranOf (upTo t (openedAt t p)) (openedAt t p .place .0) b (length l))) (verdict-opened t p b l (lent .checked) (lent .far) h ∙ e)
+        ∙ ap₂ (λ (e x : ℕ). ranOf (endingAt t e) x b (length l)) (end-opened t p) (place-opened t p)
 
     ran-list : asked b l ≡ verdict.Done → listIn t (recordIn (at p)) b (bytesFrom l) ≡ pasted (bytesFrom l) 0 (bytesFrom (foundIn t p b (length l)))
     ran-list e =
-        ap₂ (λ (r : Record) (x : List ℕ). after (searchVerdict t r b x) (bytesFrom l) (pasted (bytesFrom l) 0 (bytesFrom (foundIn t (r .place .0) b (length x))))) (at-back p h) list-back
-        ∙ ap (λ (v : Verdict). after v (bytesFrom l) (pasted (bytesFrom l) 0 (bytesFrom (foundIn t (openedAt t p .place .0) b (length l))))) (verdict-opened t p b l (lent .checked) h ∙ e)
-        ∙ ap (λ (x : ℕ). pasted (bytesFrom l) 0 (bytesFrom (foundIn t x b (length l)))) (place-opened t p)
+        ap₂ (λ (r : Record) (x : List ℕ). after (searchVerdict t r b x) (bytesFrom l) (pasted (bytesFrom l) 0 (bytesFrom (foundIn (upTo t r) (r .place .0) b (length x))))) (at-back p h) list-back
+        ∙ ap (λ (v : Verdict). after v (bytesFrom l) (pasted (bytesFrom l) 0 (bytesFrom (foundIn (upTo t (openedAt t p)) (openedAt t p .place .0) b (length l))))) (verdict-opened t p b l (lent .checked) (lent .far) h ∙ e)
+        ∙ ap₂ (λ (e x : ℕ). pasted (bytesFrom l) 0 (bytesFrom (foundIn (endingAt t e) x b (length l)))) (end-opened t p) (place-opened t p)
 
-    far : p + k ≤ 3 ^ g .n
-    far = subst (λ (x : ℕ). p + k ≤ x) (end-is t) (points-end T b (length l) p (subst (λ (x : ℕ). p ≤ x) (sym (end-is t)) h))
+    near : p + k ≤ g .end
+    near = subst (λ (x : ℕ). p + k ≤ x) (end-is t) (points-end T b (length l) p (subst (λ (x : ℕ). p ≤ x) (sym (end-is t)) h))
 
     -- the words of its answer
-    place-is : stopPlace (3 ^ g .n) (w .stop) ≡ p + k
-    place-is = ap (λ (x : ℕ). stopPlace x (w .stop)) (sym (end-is t)) ∙ report-place T b (length l) p
+    abbrev z : ℕ
+    z = recordIn (at p) .end .0
 
-    values-are : wordsIn (bytesFrom (answerValues (3 ^ g .n) (ranOf t p b (length l) .answer))) ≡ answerValues (3 ^ g .n) (Ran w)
+    place-is : stopPlace z (w .stop) ≡ p + k
+    place-is = ap (λ (x : ℕ). stopPlace x (w .stop)) (end-back p h ∙ sym (end-is t)) ∙ report-place T b (length l) p
+
+    values-are : wordsIn (bytesFrom (answerValues z (ranOf t p b (length l) .answer))) ≡ answerValues z (Ran w)
     unfolding reportOf
     values-are =
-        let s = place-small (p + k) far in
-        values-back (3 ^ g .n) w (omega (arith, place-is, s)) (omega (arith, s)) (omega (arith, s, cost-most T 3 (cost-three t) p k)) (omega (arith, s, zeros-length T p k))
+        let s = place-small (p + k) (omega (arith, near, lent .far)) in
+        values-back z w (omega (arith, place-is, s)) (omega (arith, s)) (omega (arith, s, cost-most T 3 (cost-three t) p k)) (omega (arith, s, zeros-length T p k))
 
-    told-is : toldBy 0 (bytesFrom (answerValues (3 ^ g .n) (ranOf t p b (length l) .answer))) ≡ some w
-    told-is = ap (λ (x : List ℕ). some (reportSaid x)) values-are ∙ ap some (answer-back (3 ^ g .n) w)
+    told-is : toldBy 0 (bytesFrom (answerValues z (ranOf t p b (length l) .answer))) ≡ some w
+    told-is = ap (λ (x : List ℕ). some (reportSaid x)) values-are ∙ ap some (answer-back z w)
 
     list-is : wordsIn (pasted (bytesFrom l) 0 (bytesFrom (foundIn t p b (length l)))) ≡ listAfter T b p l
     unfolding listAfter
@@ -176,13 +184,13 @@ module _ (g : Given) (answers : List ℕ → Request → List ℕ) (lent : Lent 
     -- the answer's bytes, by the verdict and the outcome
     abbrev AnswerFrom : Verdict → Outcome → Type 0
     AnswerFrom v o =
-        let new = after v answer (bytesFrom (answerValues (3 ^ g .n) (o .answer))) in
+        let new = after v answer (bytesFrom (answerValues z (o .answer))) in
         OneAnswer p answer new (toldBy (codeOf v) new)
 
     answer-ran : AnswerFrom verdict.Done (ranOf t p b (length l))
     unfolding reportOf
     answer-ran =
-        subst (OneAnswer p answer (bytesFrom (answerValues (3 ^ g .n) (ranOf t p b (length l) .answer)))) (sym told-is)
+        subst (OneAnswer p answer (bytesFrom (answerValues z (ranOf t p b (length l) .answer)))) (sym told-is)
         (values-are ∙ ap (λ (x : ℕ). stopNumber (w .stop) ∷ x ∷ w .points ∷ w .additions ∷ w .found ∷ []) place-is)
 
     pub answer-by : (x y : Bool) → asked b l ≡ refuse x refusal.Budget (refuse y refusal.List verdict.Done)
@@ -200,7 +208,7 @@ module _ (g : Given) (answers : List ℕ → Request → List ℕ) (lent : Lent 
   unfolding bytesCall
   serves p q h = go (areWords (q .list)) refl
     where
-      near : p ≤ 3 ^ g .n
+      near : p ≤ g .end
       near = subst (λ (x : ℕ). p ≤ x) (end-is t) h
 
       asked-by : (x y : Bool) → eqb (q .budget) 0 ≡ x → eqb (length (q .list)) 0 ≡ y
@@ -228,7 +236,7 @@ module _ (g : Given) (answers : List ℕ → Request → List ℕ) (lent : Lent 
   unfolding bytesCall
   one-answer p q h = go (areWords (q .list)) refl
     where
-      near : p ≤ 3 ^ g .n
+      near : p ≤ g .end
       near = subst (λ (x : ℕ). p ≤ x) (end-is t) h
 
       By : Bool → Type 0
@@ -260,24 +268,29 @@ module _ (g : Given) (answers : List ℕ → Request → List ℕ) (lent : Lent 
         answered (p + pointsTold (r .told)) (r .state) qs (a .0) (a .1) (f .1),
       )
 
-  some-places : 0 < T .end
-  some-places = subst (λ (x : ℕ). 0 < x) (sym (end-is t)) (one-le-pow (g .n) 3 (omega arith))
+  -- ---- demand 3, of the whole walk
+  module _ (whole : g .end ≡ 3 ^ g .n) where
+    end-all : T .end ≡ 3 ^ g .n
+    end-all = end-is t ∙ whole
 
-  in-order : map (T .entry) (placesIn T 0 (T .end)) ≡ map (pointOf 3 (g .n)) (placesIn T 0 (3 ^ g .n))
-  unfolding trailBehind
-  in-order = refl
+    some-places : 0 < T .end
+    some-places = omega (arith, end-all, one-le-pow (g .n) 3 (omega arith))
 
-  -- demand 3
-  pub whole-night : (qs : List Request) → SaysEnded (nightOf g answers qs .told) → WholeNight g answers qs
-  whole-night qs e =
-      let d : WholeRun T at (bytesCall g answers) qs = whole-run T at (bytesCall g answers) serves qs some-places e in
+    in-order : map (T .entry) (placesIn T 0 (T .end)) ≡ map (pointOf 3 (g .n)) (placesIn T 0 (3 ^ g .n))
+    unfolding trailBehind
+    in-order = ap (λ (x : ℕ). map (pointOf 3 (g .n)) (placesIn T 0 x)) whole
+
+  pub whole-night : g .end ≡ 3 ^ g .n → (qs : List Request) → SaysEnded (nightOf g answers qs .told) → WholeNight g answers qs
+  whole-night whole qs e =
+      let z = end-all whole in
+      let d : WholeRun T at (bytesCall g answers) qs = whole-run T at (bytesCall g answers) serves qs (some-places whole) e in
       record {
         each = d .each;
         answered = answered 0 (at 0) qs (omega arith) refl (d .each);
-        last = d .last ∙ ap at (end-is t);
-        all = λ x. trans-iff (d .all x) (zero-iff t x);
-        once = run-once T at (bytesCall g answers) qs d (distinct t);
-        order = d .order ∙ in-order;
-        points = d .points ∙ end-is t;
-        additions = d .additions ∙ ap (costIn T 0) (end-is t) ∙ cost-all t;
+        last = d .last ∙ ap at z;
+        all = λ x. trans-iff (d .all x) (zero-iff t whole x);
+        once = run-once T at (bytesCall g answers) qs d (distinct t (lent .far));
+        order = d .order ∙ in-order whole;
+        points = d .points ∙ z;
+        additions = d .additions ∙ ap (costIn T 0) z ∙ cost-all t;
       }

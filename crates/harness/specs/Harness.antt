@@ -5,7 +5,7 @@ use mathlib.Core.Logic.{_↔_}
 use mathlib.Core.Bool.{Bool, true, false, _&&_}
 use mathlib.Core.Option.{Option, none, some}
 use mathlib.Core.List.{List, [], _∷_, map}
-use Prim.Native.Nat.{ℕ, zero, suc, _+_, _/_, _^_}
+use Prim.Native.Nat.{ℕ, zero, suc, _+_, _/_, _^_, _≤_}
 use lib.Dec.{ltb}
 use lib.ListN.{length, getD}
 use Rattle.refusals.specs.Choice.{pick}
@@ -72,11 +72,12 @@ bytesCall g answers rec q = lentIf (areWords (q .list)) (replyBy g (answers rec 
 unfoldable pub recordAt : Given → ℕ → List ℕ
 recordAt g p = bytesFrom (recordWords (openedAt (inWords g) p))
 
--- a checked table of the degree that its number of bytes tells, which is exact, and 40 bytes for each answer
+-- a checked table of the degree that its number of bytes tells, which is exact, an end within 3^n, and 40 bytes for each answer
 pub record Lent (g : Given) (answers : List ℕ → Request → List ℕ) : Type 0 where
   pub degree : g .degree ≡ degreeTold (g .n) (length (g .words) / 8)
   pub bytes : length (g .words) ≡ bytesTold (g .n) (length (g .words))
   pub checked : Checked (inWords g)
+  pub far : g .end ≤ 3 ^ g .n
   pub answer : (rec : List ℕ) (q : Request) → length (answers rec q) ≡ 40
 
 -- the answer's bytes after a call
@@ -101,7 +102,7 @@ EachAnswer g answers p rec (q ∷ qs) =
 abbrev pub nightOf : Given → (List ℕ → Request → List ℕ) → List Request → Sums (List ℕ)
 nightOf g answers qs = sumsOf (bytesCall g answers) (recordAt g 0) qs
 
--- demand 3 over bytes, of a run whose last accepted answer says "ended": each call was refused and changed no byte of record, list and answer,
+-- demand 3 over bytes, of a run up to the end 3^n whose last accepted answer says "ended": each call was refused and changed no byte of record, list and answer,
 -- or its answer tells that it examined the next places, at most its budget, at least one before the end, its record's bytes are those
 -- opened at the place it came to, and its list has the zeros among its own places in front and the rest as it was;
 -- the joined lists are all common zeros, each once, in Gray order; points and additions sum to those of the whole walk

@@ -13,7 +13,7 @@ use Rattle.given.specs.Given.{Given}
 use Rattle.opening.specs.declared.Record.{Record}
 use Rattle.search.specs.declared.Answer.the-variants.{Refused}
 use Rattle.search.specs.declared.Outcome.{Outcome}
-use Rattle.search.specs.Search.{roomVerdict, ranOf, outcomeFrom}
+use Rattle.search.specs.Search.{upTo, roomVerdict, ranOf, outcomeFrom}
 use Rattle.lists.specs.Listed.{foundIn, outcomeIn, listIn}
 
 module _ (g : Given) (r : Record) (b : ℕ) (l : List ℕ) where
@@ -27,16 +27,16 @@ module _ (g : Given) (r : Record) (b : ℕ) (l : List ℕ) where
       → (record { answer = Refused f; «record» = r } ≡ outcomeIn g r b l) × (l ≡ listIn g r b l)
   listed-refused f e =
       let i : verdict.Refused f ≡ roomVerdict g r b c = sym e ∙ ap (roomVerdict g r b) same in (
-        ap (λ (v : Verdict). outcomeFrom v r (ranOf g (r .place .0) b c)) i,
-        ap (λ (v : Verdict). after v l (pasted l 0 (bytesFrom (foundIn g (r .place .0) b c)))) i,
+        ap (λ (v : Verdict). outcomeFrom v r (ranOf (upTo g r) (r .place .0) b c)) i,
+        ap (λ (v : Verdict). after v l (pasted l 0 (bytesFrom (foundIn (upTo g r) (r .place .0) b c)))) i,
       )
 
   pub listed-done : roomVerdict g r b (length l / 8) ≡ verdict.Done → (o : Outcome) (l′ : List ℕ)
-      → o ≡ ranOf g (r .place .0) b (length l / 8) → l′ ≡ pasted l 0 (bytesFrom (foundIn g (r .place .0) b (length l / 8)))
+      → o ≡ ranOf (upTo g r) (r .place .0) b (length l / 8) → l′ ≡ pasted l 0 (bytesFrom (foundIn (upTo g r) (r .place .0) b (length l / 8)))
       → (o ≡ outcomeIn g r b l) × (l′ ≡ listIn g r b l)
   listed-done e o l′ eo el =
       let i : verdict.Done ≡ roomVerdict g r b c = sym e ∙ ap (roomVerdict g r b) same in (
-        eo ∙ ap (ranOf g (r .place .0) b) same ∙ ap (λ (v : Verdict). outcomeFrom v r (ranOf g (r .place .0) b c)) i,
-        el ∙ ap (λ (x : ℕ). pasted l 0 (bytesFrom (foundIn g (r .place .0) b x))) same
-            ∙ ap (λ (v : Verdict). after v l (pasted l 0 (bytesFrom (foundIn g (r .place .0) b c)))) i,
+        eo ∙ ap (ranOf (upTo g r) (r .place .0) b) same ∙ ap (λ (v : Verdict). outcomeFrom v r (ranOf (upTo g r) (r .place .0) b c)) i,
+        el ∙ ap (λ (x : ℕ). pasted l 0 (bytesFrom (foundIn (upTo g r) (r .place .0) b x))) same
+            ∙ ap (λ (v : Verdict). after v l (pasted l 0 (bytesFrom (foundIn (upTo g r) (r .place .0) b c)))) i,
       )

@@ -13,16 +13,16 @@ use Rattle.walks.specs.Calls.{Trail, zerosIn, costIn, pointsIn, stopFrom, repor
 use Rattle.walks.proofs.CallLaw.{zeros-add, cost-add, cost-most, points-none, points-le, points-one, points-end, zeros-room, after-length, after-front}
 use Rattle.codec.specs.Codec.{bytesFrom, pasted}
 use Rattle.codec.proofs.CodecLaw.{paste-paste, paste-none, from-append, from-nil, length-from, length-pasted}
-use Rattle.given.specs.Given.{Given, Checked}
+use Rattle.given.specs.Given.{Given, endingAt, Checked}
 use Rattle.given.proofs.TableLaw.{power-small}
 use Rattle.opening.specs.declared.Record.{Record}
 use Rattle.search.specs.declared.Answer.the-variants.{Ran}
 use Rattle.search.specs.declared.Outcome.{Outcome}
 use Rattle.opening.specs.Opened.{openedAt}
-use Rattle.search.specs.Search.{trailBehind, fits, ranOf}
+use Rattle.search.specs.Search.{trailBehind, upTo, fits, ranOf}
 use Rattle.search.proofs.VerdictLaw.{fits-opened}
 use Rattle.search.proofs.RanLaw as ran
-use Rattle.search.proofs.TrailLaw.{end-is, cost-three, place-opened}
+use Rattle.search.proofs.TrailLaw.{end-is, cost-three, place-opened, end-opened}
 use Rattle.lists.specs.Listed.{foundIn}
 use Rattle.lists.specs.Pieces.{didOf}
 use Rattle.lists.proofs.CutLaw.{zeros-none, found-add, Cut, cut-none, cut-more, cut-over, report-over}
@@ -32,8 +32,12 @@ unfolding costIn
 cost-none T p = refl
 
 module _ (g : Given) (r : Record) (budget : ℕ) (l₀ : List ℕ) where
+  -- the table with the record's end, and its walk
+  abbrev t : Given
+  t = upTo g r
+
   abbrev T : Trail
-  T = trailBehind g
+  T = trailBehind t
 
   abbrev p : ℕ
   p = r .place .0
@@ -47,8 +51,9 @@ module _ (g : Given) (r : Record) (budget : ℕ) (l₀ : List ℕ) where
     pub spare : left ≡ budget - k
     pub used : at ≡ length (zerosIn T p k)
     pub sum : additions ≡ costIn T p k
-    pub near : p + k ≤ 3 ^ g .n
-    pub here : s ≡ openedAt g (p + k)
+    pub far : r .end .0 ≤ 3 ^ g .n
+    pub near : p + k ≤ r .end .0
+    pub here : s ≡ openedAt t (p + k)
     pub list : l ≡ pasted l₀ 0 (bytesFrom (zerosIn T p k))
 
   pub starts : fits g r ≡ true → Held 0 budget 0 0 l₀ r
@@ -59,8 +64,9 @@ module _ (g : Given) (r : Record) (budget : ℕ) (l₀ : List ℕ) where
         spare = omega arith;
         used = sym (ap length (zeros-none T p));
         sum = sym (cost-none T p);
+        far = ran.fits-end g r h;
         near = omega (arith, ran.fits-place g r h);
-        here = ran.fits-opened g r h ∙ ap (openedAt g) (sym z);
+        here = ran.fits-opened g r h ∙ ap (openedAt t) (sym z);
         list = paste-none l₀ 0 ∙ ap (pasted l₀ 0) (sym (ap bytesFrom (zeros-none T p) ∙ from-nil));
       }
 
@@ -75,15 +81,18 @@ module _ (g : Given) (r : Record) (budget : ℕ) (l₀ : List ℕ) where
     at-within = omega (arith, h .used, h .cut .fits)
 
     pub place-is : s .place .0 ≡ p + k
-    place-is = ap (λ (x : Record). x .place .0) (h .here) ∙ place-opened g (p + k)
+    place-is = ap (λ (x : Record). x .place .0) (h .here) ∙ place-opened t (p + k)
+
+    end-same : s .end .0 ≡ r .end .0
+    end-same = ap (λ (x : Record). x .end .0) (h .here) ∙ end-opened t (p + k)
 
     pub own : fits g s ≡ true
-    own = ap (fits g) (h .here) ∙ fits-opened g (p + k) (h .near)
+    own = ap (fits g) (h .here) ∙ fits-opened t (p + k) (h .far) (h .near)
 
     -- ---- nothing is left to do: this is the whole call
-    pub closed : (st : Stop) → st ≡ stopFrom (s .place .0) (3 ^ g .n) at room → (s .place .0 ≡ 3 ^ g .n) ⊎ (left ≡ 0) ⊎ (room - at ≡ 0)
-        → (_≡_ {A = Outcome} (record { answer = Ran (record { stop = st; points = k; additions = additions; found = at }); «record» = s }) (ranOf g p budget room))
-        × (l ≡ pasted l₀ 0 (bytesFrom (foundIn g p budget room)))
+    pub closed : (st : Stop) → st ≡ stopFrom (s .place .0) (r .end .0) at room → (s .place .0 ≡ r .end .0) ⊎ (left ≡ 0) ⊎ (room - at ≡ 0)
+        → (_≡_ {A = Outcome} (record { answer = Ran (record { stop = st; points = k; additions = additions; found = at }); «record» = s }) (ranOf t p budget room))
+        × (l ≡ pasted l₀ 0 (bytesFrom (foundIn t p budget room)))
     unfolding trailBehind
     closed st es o =
         let v : (p + k ≡ T .end) ⊎ (budget - k ≡ 0) ⊎ (room - length (zerosIn T p k) ≡ 0) =
@@ -91,18 +100,18 @@ module _ (g : Given) (r : Record) (budget : ℕ) (l₀ : List ℕ) where
         in
         let e = cut-over T budget room p k (h .cut) v in
         let w = report-over T budget room p k (h .cut) v in
-        let i : st ≡ reportIn T room p k .stop = es ∙ ap₂ (λ (x y : ℕ). stopFrom x (3 ^ g .n) y room) place-is (h .used) in
+        let i : st ≡ reportIn T room p k .stop = es ∙ ap₂ (λ (x y : ℕ). stopFrom x (r .end .0) y room) place-is (h .used) in
         let a : _≡_ {A = Report} (record { stop = st; points = k; additions = additions; found = at }) (reportIn T room p k) =
         λ j. record { stop = i j; points = k; additions = h .sum j; found = h .used j }
         in (
-          ap₂ (λ (x : Report) (y : Record). record { answer = Ran x; «record» = y }) (a ∙ w) (h .here ∙ ap (λ (x : ℕ). openedAt g (p + x)) (sym e)),
+          ap₂ (λ (x : Report) (y : Record). record { answer = Ran x; «record» = y }) (a ∙ w) (h .here ∙ ap (λ (x : ℕ). openedAt t (p + x)) (sym e)),
           h .list ∙ ap (λ (x : ℕ). pasted l₀ 0 (bytesFrom (zerosIn T p x))) (sym e),
         )
 
     -- ---- a piece more, with so many words between
     module _ (words : ℕ) (o : Outcome) (l′ : List ℕ) (w : Report)
-        (eo : o ≡ ranOf g (s .place .0) left (min words (length l / 8 - at)))
-        (el : l′ ≡ pasted l (8 * at) (bytesFrom (foundIn g (s .place .0) left (min words (length l / 8 - at)))))
+        (eo : o ≡ ranOf (upTo g s) (s .place .0) left (min words (length l / 8 - at)))
+        (el : l′ ≡ pasted l (8 * at) (bytesFrom (foundIn (upTo g s) (s .place .0) left (min words (length l / 8 - at)))))
         (ew : w ≡ didOf (o .answer)) where
       abbrev d : ℕ
       d = min words (room - at)
@@ -116,13 +125,16 @@ module _ (g : Given) (r : Record) (budget : ℕ) (l₀ : List ℕ) where
       same : min words (length l / 8 - at) ≡ d
       same = ap (λ (x : ℕ). min words (x / 8 - at)) long
 
-      outcome : o ≡ ranOf g q (budget - k) d
-      outcome = eo ∙ ap₂ (λ (x y : ℕ). ranOf g x y (min words (length l / 8 - at))) place-is (h .spare) ∙ ap (ranOf g q (budget - k)) same
+      outcome : o ≡ ranOf t q (budget - k) d
+      outcome =
+          eo ∙ ap (λ (e : ℕ). ranOf (endingAt g e) (s .place .0) left (min words (length l / 8 - at))) end-same
+          ∙ ap₂ (λ (x y : ℕ). ranOf t x y (min words (length l / 8 - at))) place-is (h .spare) ∙ ap (ranOf t q (budget - k)) same
 
       found : l′ ≡ pasted l (8 * at) (bytesFrom (zerosIn T q j))
       found =
-          el ∙ ap₂ (λ (x y : ℕ). pasted l (8 * at) (bytesFrom (foundIn g x y (min words (length l / 8 - at))))) place-is (h .spare)
-          ∙ ap (λ (x : ℕ). pasted l (8 * at) (bytesFrom (foundIn g q (budget - k) x))) same
+          el ∙ ap (λ (e : ℕ). pasted l (8 * at) (bytesFrom (foundIn (endingAt g e) (s .place .0) left (min words (length l / 8 - at))))) end-same
+          ∙ ap₂ (λ (x y : ℕ). pasted l (8 * at) (bytesFrom (foundIn t x y (min words (length l / 8 - at))))) place-is (h .spare)
+          ∙ ap (λ (x : ℕ). pasted l (8 * at) (bytesFrom (foundIn t q (budget - k) x))) same
 
       report : w ≡ reportOf T (budget - k) d q
       report = ew ∙ ap (λ (x : Outcome). didOf (x .answer)) outcome
@@ -145,10 +157,10 @@ module _ (g : Given) (r : Record) (budget : ℕ) (l₀ : List ℕ) where
       next-cut : Cut T budget room p (k + j)
       next-cut = cut-more T budget room p k d (h .cut) less
 
-      next-near : p + (k + j) ≤ 3 ^ g .n
+      next-near : p + (k + j) ≤ r .end .0
       next-near =
-          let e = end-is g in
-          let i : q + j ≤ 3 ^ g .n = subst (λ (x : ℕ). q + j ≤ x) e (points-end T (budget - k) d q (subst (λ (x : ℕ). q ≤ x) (sym e) (h .near))) in
+          let e = end-is t in
+          let i : q + j ≤ r .end .0 = subst (λ (x : ℕ). q + j ≤ x) e (points-end T (budget - k) d q (subst (λ (x : ℕ). q ≤ x) (sym e) (h .near))) in
           omega (arith, i)
 
       pub points-fit : w .points ≤ left
@@ -159,8 +171,8 @@ module _ (g : Given) (r : Record) (budget : ℕ) (l₀ : List ℕ) where
 
       pub few : Checked g → additions + w .additions ≤ 3 * 3 ^ 20
       few ok =
-          let a : k + j ≤ 3 ^ 20 = omega (arith, next-near, power-small g ok) in
-          let c = cost-most T 3 (cost-three g) p (k + j) in
+          let a : k + j ≤ 3 ^ 20 = omega (arith, next-near, h .far, power-small g ok) in
+          let c = cost-most T 3 (cost-three t) p (k + j) in
           omega (arith, h .sum, additions-are, cost-add T p k j, c, a)
 
       next-list : l′ ≡ pasted l₀ 0 (bytesFrom (zerosIn T p (k + j)))
@@ -174,10 +186,10 @@ module _ (g : Given) (r : Record) (budget : ℕ) (l₀ : List ℕ) where
           ∙ paste-paste l₀ 0 u v (omega (arith, a, b, found-add T p k j, next-cut .fits))
           ∙ ap (pasted l₀ 0) (sym (from-append (zerosIn T p k) (zerosIn T q j)) ∙ ap bytesFrom (sym (zeros-add T p k j)))
 
-      next-record : o .«record» ≡ openedAt g (p + (k + j))
+      next-record : o .«record» ≡ openedAt t (p + (k + j))
       next-record =
           let e : q + j ≡ p + (k + j) = omega arith in
-          ap (λ (x : Outcome). x .«record») outcome ∙ ap (openedAt g) e
+          ap (λ (x : Outcome). x .«record») outcome ∙ ap (openedAt t) e
 
       pub next : Held (k + w .points) (left - w .points) (at + w .found) (additions + w .additions) l′ (o .«record»)
       next =
@@ -187,24 +199,25 @@ module _ (g : Given) (r : Record) (budget : ℕ) (l₀ : List ℕ) where
             spare = omega (arith, h .spare);
             used = omega (arith, h .used, found-are, found-add T p k j);
             sum = omega (arith, h .sum, additions-are, cost-add T p k j);
+            far = h .far;
             near = next-near;
             here = next-record;
             list = next-list;
           })
 
       -- where something is left, the piece was not empty
-      pub moved : 0 < words → (o .«record» .place .0 ≡ 3 ^ g .n → ⊥) → 0 < left - w .points → 0 < room - (at + w .found) → 0 < w .points
+      pub moved : 0 < words → (o .«record» .place .0 ≡ r .end .0 → ⊥) → 0 < left - w .points → 0 < room - (at + w .found) → 0 < w .points
       moved some f hb hc =
-          let e = ap (λ (x : Record). x .place .0) next-record ∙ place-opened g (p + (k + j)) in
-          let i : q ≡ T .end → ⊥ = λ x. let z = points-none T (budget - k) d q x in let y = end-is g in f (e ∙ omega (arith, x, z, y)) in
-          let u : q < T .end = omega (arith, i, end-is g, h .near) in
+          let e = ap (λ (x : Record). x .place .0) next-record ∙ place-opened t (p + (k + j)) in
+          let i : q ≡ T .end → ⊥ = λ x. let z = points-none T (budget - k) d q x in let y = end-is t in f (e ∙ omega (arith, x, z, y)) in
+          let u : q < T .end = omega (arith, i, end-is t, h .near) in
           let x = points-one T (budget - k) d q u (omega (arith, h .spare, hb)) (omega (arith, some, hc)) in
           omega (arith, x, points-are)
 
   -- ---- the same as the code counts: the places so far are what is gone of the budget
   module _ (left at additions : ℕ) (l : List ℕ) (s : Record) (h : Held (budget - left) left at additions l s) (words : ℕ) (o : Outcome) (l′ : List ℕ) (w : Report)
-      (eo : o ≡ ranOf g (s .place .0) left (min words (length l / 8 - at)))
-      (el : l′ ≡ pasted l (8 * at) (bytesFrom (foundIn g (s .place .0) left (min words (length l / 8 - at)))))
+      (eo : o ≡ ranOf (upTo g s) (s .place .0) left (min words (length l / 8 - at)))
+      (el : l′ ≡ pasted l (8 * at) (bytesFrom (foundIn (upTo g s) (s .place .0) left (min words (length l / 8 - at)))))
       (ew : w ≡ didOf (o .answer)) where
     pub again : Held (budget - (left - w .points)) (left - w .points) (at + w .found) (additions + w .additions) l′ (o .«record»)
     again =

@@ -8,7 +8,7 @@ use Rattle.codec.specs.Codec.{wordsIn, bytesFrom, pasted}
 use Rattle.given.specs.Given.{Given}
 use Rattle.opening.specs.declared.Record.{Record}
 use Rattle.search.specs.declared.Outcome.{Outcome}
-use Rattle.search.specs.Search.{trailBehind, searchVerdict, outcomeOf}
+use Rattle.search.specs.Search.{trailBehind, upTo, searchVerdict, outcomeOf}
 
 -- the points of the zeros that a call finds from place p, with budget b and room for c entries
 abbrev pub foundIn : Given → ℕ → ℕ → ℕ → List ℕ
@@ -20,4 +20,4 @@ outcomeIn g r b l = outcomeOf g r b (wordsIn l)
 -- the list after: the bytes of the zeros from the front, the rest as it was; with a refusal all of it
 abbrev pub listIn : Given → Record → ℕ → List ℕ → List ℕ
 listIn g r b l =
-    after (searchVerdict g r b (wordsIn l)) l (pasted l 0 (bytesFrom (foundIn g (r .place .0) b (length (wordsIn l)))))
+    after (searchVerdict g r b (wordsIn l)) l (pasted l 0 (bytesFrom (foundIn (upTo g r) (r .place .0) b (length (wordsIn l)))))

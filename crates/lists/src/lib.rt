@@ -15,7 +15,7 @@ ghost use Prim.Native.Nat.{_-_, _*_, _/_, _<_, _≤_, min};
 ghost use lib.ListN.{length};
 ghost use Rattle.codec.specs.Codec.{bytesFrom, pasted};
 ghost use Rattle.given.specs.Given.{tableWith, Checked};
-ghost use Rattle.search.specs.Search.{fits, ranOf};
+ghost use Rattle.search.specs.Search.{upTo, fits, ranOf};
 ghost use Rattle.lists.specs.Listed.{foundIn, outcomeIn, listIn};
 ghost use Rattle.lists.specs.Pieces.{didOf, GoesOn};
 
@@ -69,8 +69,8 @@ fn part(
     at: usize,
 ) -> Outcome
     requires { ⌜ Checked (tableWith degree n m (now table)) × (fits (tableWith degree n m (now table)) r ≡ true) × (at ≤ length (now list) / 8) ⌝ }
-    ensures { λ o. ⌜ (o ≡ ranOf (tableWith degree n m (now (table .entry))) (r .place .0) left (min (length (now (words .entry))) (length (now (list .entry)) / 8 - at)))
-        × (now (list .exit) ≡ pasted (now (list .entry)) (8 * at) (bytesFrom (foundIn (tableWith degree n m (now (table .entry))) (r .place .0) left (min (length (now (words .entry))) (length (now (list .entry)) / 8 - at))))) ⌝ }
+    ensures { λ o. ⌜ (o ≡ ranOf (upTo (tableWith degree n m (now (table .entry))) r) (r .place .0) left (min (length (now (words .entry))) (length (now (list .entry)) / 8 - at)))
+        × (now (list .exit) ≡ pasted (now (list .entry)) (8 * at) (bytesFrom (foundIn (upTo (tableWith degree n m (now (table .entry))) r) (r .place .0) left (min (length (now (words .entry))) (length (now (list .entry)) / 8 - at))))) ⌝ }
 {
     let room = list.len() / 8 - at;
     let c = lesser(words.len(), room);
@@ -94,10 +94,10 @@ fn filled(
     list: &mut [u8],
 ) -> Outcome
     requires { ⌜ Checked (tableWith degree n m (now table)) × (fits (tableWith degree n m (now table)) r ≡ true) × (0 < length (now words)) ⌝ }
-    ensures { λ o. ⌜ (o ≡ ranOf (tableWith degree n m (now (table .entry))) (r .place .0) budget (length (now (list .entry)) / 8))
-        × (now (list .exit) ≡ pasted (now (list .entry)) 0 (bytesFrom (foundIn (tableWith degree n m (now (table .entry))) (r .place .0) budget (length (now (list .entry)) / 8)))) ⌝ }
+    ensures { λ o. ⌜ (o ≡ ranOf (upTo (tableWith degree n m (now (table .entry))) r) (r .place .0) budget (length (now (list .entry)) / 8))
+        × (now (list .exit) ≡ pasted (now (list .entry)) 0 (bytesFrom (foundIn (upTo (tableWith degree n m (now (table .entry))) r) (r .place .0) budget (length (now (list .entry)) / 8)))) ⌝ }
 {
-    let end = positions::power(n);
+    let end = r.end.0;
     let len = list.len() / 8;
     let mut s = r;
     let mut left = budget;

@@ -63,7 +63,7 @@ module _ (n m : ℕ) (words old : List ℕ) (h : Startable n m words old) where
     -- the walk is opened at place 0
     opened-is : (o : Opened) → o ≡ openOf g 0 → o .«record» ≡ openedAt g 0
     opened-is o q =
-        ap (λ (o : Opened). o .«record») q ∙ ap (λ (v : Verdict). after v noRecord (openedAt g 0)) (verdict-done g 0 checked (omega arith))
+        ap (λ (o : Opened). o .«record») q ∙ ap (λ (v : Verdict). after v noRecord (openedAt g 0)) (verdict-done g 0 checked (omega arith) (omega arith))
 
     pub started : (o : Opened) (b : List ℕ) (used : ℕ) → o ≡ openOf g 0 → used ≤ length b → take used b ≡ headLine n m
         → Started n m words t b (record { n = n; m = m; «record» = o .«record»; points = 0; additions = 0; found = 0; used = used; «open» = true })

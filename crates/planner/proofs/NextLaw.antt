@@ -16,7 +16,7 @@ use Rattle.refusals.specs.declared.Verdict.{Verdict}
 use Rattle.refusals.specs.declared.Verdict.the-variants as verdict
 use Rattle.refusals.specs.Refusal.{refuse, after}
 use Rattle.refusals.proofs.RefusalLaw.{refuse-none}
-use Rattle.given.specs.Given.{Given, quadratic, Checked}
+use Rattle.given.specs.Given.{Given, quadratic, endingAt, Checked}
 use Rattle.given.proofs.TableLaw.{within, power-small}
 use Rattle.walks.specs.declared.Stop.{Stop}
 use Rattle.walks.specs.declared.Stop.the-variants.{Ended, Full, Spent}
@@ -28,9 +28,9 @@ use Rattle.search.specs.declared.Answer.{Answer}
 use Rattle.search.specs.declared.Answer.the-variants.{Ran, Refused}
 use Rattle.search.specs.declared.Outcome.{Outcome}
 use Rattle.opening.specs.Opened.{openedAt}
-use Rattle.search.specs.Search.{trailBehind, searchVerdict, ranOf, outcomeFrom, outcomeOf, listLeft}
+use Rattle.search.specs.Search.{trailBehind, upTo, searchVerdict, ranOf, outcomeFrom, outcomeOf, listLeft}
 use Rattle.search.proofs.VerdictLaw.{asked, verdict-opened}
-use Rattle.search.proofs.TrailLaw.{end-is, cost-le, place-opened}
+use Rattle.search.proofs.TrailLaw.{end-is, cost-le, place-opened, end-opened}
 use Rattle.planner.specs.declared.Session.{Session}
 use Rattle.listing.specs.Listing.{layoutLine, layoutLines, totalsLine}
 use Rattle.planner.specs.Output.{ownTable, Standing, leftFrom, leftOf, Went, Stepped}
@@ -76,21 +76,24 @@ asked-done b l h j =
     refuse-none (eqb b 0) refusal.Budget (refuse (eqb (length l) 0) refusal.List verdict.Done) (ne-eqb b 0 (λ e. omega arith))
     ∙ refuse-none (eqb (length l) 0) refusal.List verdict.Done (ne-eqb (length l) 0 (λ e. omega arith))
 
-module _ (g : Given) (p b : ℕ) (l : List ℕ) (r : Record) (ok : Checked g) (h : p ≤ 3 ^ g .n) (some : 0 < b) (room : 0 < length l)
+module _ (g : Given) (p b : ℕ) (l : List ℕ) (r : Record) (ok : Checked g) (far : g .end ≤ 3 ^ g .n) (h : p ≤ g .end) (some : 0 < b) (room : 0 < length l)
     (at : r ≡ openedAt g p) where
   place-is : r .place .0 ≡ p
   place-is = ap (λ (r : Record). r .place .0) at ∙ place-opened g p
 
+  end-same : r .end .0 ≡ g .end
+  end-same = ap (λ (r : Record). r .end .0) at ∙ end-opened g p
+
   passes : searchVerdict g r b l ≡ verdict.Done
-  passes = ap (λ (r : Record). searchVerdict g r b l) at ∙ verdict-opened g p b l ok h ∙ asked-done b l some room
+  passes = ap (λ (r : Record). searchVerdict g r b l) at ∙ verdict-opened g p b l ok far h ∙ asked-done b l some room
 
   call-ran : (o : Outcome) → o ≡ outcomeOf g r b l → o ≡ ranOf g p b (length l)
   call-ran o e =
-      e ∙ ap (λ (v : Verdict). outcomeFrom v r (ranOf g (r .place .0) b (length l))) passes ∙ ap (λ (q : ℕ). ranOf g q b (length l)) place-is
+      e ∙ ap (λ (v : Verdict). outcomeFrom v r (ranOf (upTo g r) (r .place .0) b (length l))) passes ∙ ap₂ (λ (e q : ℕ). ranOf (endingAt g e) q b (length l)) end-same place-is
 
   call-list : (k : List ℕ) → k ≡ listLeft g r b l → k ≡ listAfter (trailBehind g) b p l
   call-list k e =
-      e ∙ ap (λ (v : Verdict). after v l (listAfter (trailBehind g) b (r .place .0) l)) passes ∙ ap (λ (q : ℕ). listAfter (trailBehind g) b q l) place-is
+      e ∙ ap (λ (v : Verdict). after v l (listAfter (trailBehind (upTo g r)) b (r .place .0) l)) passes ∙ ap₂ (λ (e q : ℕ). listAfter (trailBehind (endingAt g e)) b q l) end-same place-is
 
 same-ran : (a : Answer) (u w : Report) → a ≡ Ran u → a ≡ Ran w → w ≡ u
 same-ran a u w e f = cc
@@ -154,16 +157,16 @@ module _ (t : List ℕ) (s : Session) (st : Standing t s) (b : ℕ) (l : List �
   pub not-refused : (o : Outcome) (f : Refusal) → o ≡ outcomeOf g (s .«record») b l → o .answer ≡ Refused f → ⊥
   not-refused o f e a =
       ran-refused (o .answer) (reportOf T b (length l) p) f
-      (ap (λ (o : Outcome). o .answer) (call-ran g p b l (s .«record») (st .checked) (st .within) some room (st .«record») o e)) a
+      (ap (λ (o : Outcome). o .answer) (call-ran g p b l (s .«record») (st .checked) (omega arith) (st .within) some room (st .«record») o e)) a
 
   pub answered : (o : Outcome) (w : Report) (z : List ℕ) → o ≡ outcomeOf g (s .«record») b l → z ≡ listLeft g (s .«record») b l
       → o .answer ≡ Ran w → Report-is w (o .«record») z
   unfolding k
   answered o w z eo ez a =
-      let e = call-ran g p b l (s .«record») (st .checked) (st .within) some room (st .«record») o eo in
+      let e = call-ran g p b l (s .«record») (st .checked) (omega arith) (st .within) some room (st .«record») o eo in
       report-is w (o .«record») z (same-ran (o .answer) (reportOf T b (length l) p) w (ap (λ (o : Outcome). o .answer) e) a)
       (ap (λ (o : Outcome). o .«record») e)
-      (call-list g p b l (s .«record») (st .checked) (st .within) some room (st .«record») z ez)
+      (call-list g p b l (s .«record») (st .checked) (omega arith) (st .within) some room (st .«record») z ez)
 
   module _ (w : Report) (o : Record) (z : List ℕ) (i : Report-is w o z) where
     additions-next : s .additions + w .additions ≡ costIn T 0 (p + k)

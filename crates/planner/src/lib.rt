@@ -41,6 +41,7 @@ fn no_record() -> Record {
         value: none,
         slots: [none; MOST_UNKNOWNS],
         seconds: [0; SECOND_WORDS],
+        end: Place(0),
     }
 }
 

@@ -10,7 +10,7 @@ use Rattle.opening.specs.Opened.{openedAt, openVerdict}
 use Rattle.lent.specs.Lent.{room}
 use Rattle.wire.specs.Wire.{recordWords}
 
--- opening at a place, into 465 words
+-- opening at a place with the end that is told, into 466 words
 abbrev pub openCall : Given → ℕ → List ℕ → Verdict
 openCall g p rec = room (g .n) (g .m) (length rec) limits.recordWords (openVerdict g p)
 

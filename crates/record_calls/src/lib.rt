@@ -4,13 +4,29 @@ use gray::Place;
 use refusals::RECORD_WORDS;
 ghost use mathlib.Core.Path.{_≡_};
 ghost use Rattle.refusals.specs.Refusal.{codeOf};
-ghost use Rattle.given.specs.Given.{tableTold};
+ghost use Rattle.given.specs.Given.{tableTold, endingAt};
 ghost use Rattle.record_calls.specs.Call.{openCall, openAfter};
 
-// The record of a table at a place, as 465 words. The number of the table's words tells its degree.
+// The record of a table at a place, as 466 words, with all the places from there on to walk. The number of the table's words tells its degree.
 pub fn open(n: u64, m: u64, table: &[u64], place: u64, record: &mut [u64]) -> u64
     ensures { λ c. ⌜ (c ≡ codeOf (openCall (tableTold n m (now (table .entry))) place (now («record» .entry))))
         × (now («record» .exit) ≡ openAfter (tableTold n m (now (table .entry))) place (now («record» .entry))) ⌝ }
+{
+    let end = positions::power(n);
+    open_range(n, m, table, place, end, record)
+}
+
+// The same with an end, from the place to 3^n.
+pub fn open_range(
+    n: u64,
+    m: u64,
+    table: &[u64],
+    place: u64,
+    end: u64,
+    record: &mut [u64],
+) -> u64
+    ensures { λ c. ⌜ (c ≡ codeOf (openCall (endingAt (tableTold n m (now (table .entry))) end) place (now («record» .entry))))
+        × (now («record» .exit) ≡ openAfter (endingAt (tableTold n m (now (table .entry))) end) place (now («record» .entry))) ⌝ }
 {
     let v = lent::room_for(n, m, record.len(), RECORD_WORDS);
     let refused = refusals::code(v);
@@ -18,8 +34,9 @@ pub fn open(n: u64, m: u64, table: &[u64], place: u64, record: &mut [u64]) -> u6
         return refused;
     }
     let p = Place(place);
+    let e = Place(end);
     let degree = given::degree_of(n, table.len());
-    let o = opening::open(degree, n, m, table, p);
+    let o = opening::open_range(degree, n, m, table, p, e);
     let said = o.verdict;
     let number = refusals::code(said);
     if number != 0 {

@@ -25,12 +25,16 @@ mostCubicWords = 3502
 abbrev pub firstWords : ℕ
 firstWords = 45
 
+-- the word of a record that is its end
+abbrev pub endWord : ℕ
+endWord = 465
+
 -- a record's words, and its bytes for C
 abbrev pub recordWords : ℕ
-recordWords = 465
+recordWords = 466
 
 abbrev pub recordLength : ℕ
-recordLength = 3720
+recordLength = 3728
 
 -- the entries of the list that one call fills, where a longer list is filled by several
 abbrev pub pieceEntries : ℕ

@@ -25,10 +25,15 @@ pub const FIRST_WORDS: usize = 45;
 
 pub const FIRST_LENGTH: usize = 360;
 
-// A record's words, and its bytes for C.
-pub const RECORD_WORDS: usize = 465;
+// The word of a record that is its end, and the first byte of it.
+pub const END_WORD: usize = 465;
 
-pub const RECORD_LENGTH: usize = 3720;
+pub const END_BYTE: usize = 3720;
+
+// A record's words, and its bytes for C.
+pub const RECORD_WORDS: usize = 466;
+
+pub const RECORD_LENGTH: usize = 3728;
 
 // The entries of the list that one call fills, where a longer list is filled by several.
 pub const PIECE_ENTRIES: usize = 1024;

@@ -58,10 +58,11 @@ fn reported(from: u64, len: usize, t: Went) -> Outcome
     let record = t.record;
     let at = record.place.0;
     let stop = stop_of(at, record.end.0, t.found, len);
+    let points = at - from;
     Outcome {
         answer: Answer::Ran(Report {
             stop,
-            points: at - from,
+            points,
             additions: t.additions,
             found: t.found as u64,
         }),

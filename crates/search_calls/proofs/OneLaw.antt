@@ -20,9 +20,9 @@ use Rattle.cubics.specs.Cubic.{Cubic, lowOf, cubesOf, cubicOf}
 use Rattle.cubics.specs.Whole.{cubesFrom, cubesBack, lowTable, backCubic}
 use Rattle.tables.specs.Words.{polyAt}
 use Rattle.cubic_tables.specs.Words.{cubicAt}
-use Rattle.given.specs.Given.{Given, quadratic, cubic, behind, cubicBehind, valuesOf}
+use Rattle.given.specs.Given.{Given, quadratic, cubic, endingAt, behind, cubicBehind, valuesOf}
 use Rattle.given.specs.Slots.{valueAt, slotAt, slotsAt, secondAt, secondsAt}
-use Rattle.given.proofs.SlotLaw.{slots-length, slots-at, slots-are, second-none, second-two, seconds-long, seconds-at, seconds-are}
+use Rattle.given.proofs.SlotLaw.{slots-length, slots-at, slots-are, second-none, second-two, seconds-long, seconds-at, seconds-are, value-ending, slots-ending, seconds-ending}
 use Rattle.opening.specs.declared.Record.{Record}
 use Rattle.opening.specs.Opened.{openedAt}
 
@@ -104,7 +104,11 @@ module _ (m : ℕ) (t : List ℕ) where
       each b (suc c) h = second-none 1 m t q b (suc c) (omega arith)
 
   -- and the record, where its second slot is zero
-  pub record-one : (p : ℕ) → secondAt (cubic 1 m t) (p - 1) 0 0 ≡ none → openedAt (cubic 1 m t) p ≡ openedAt (quadratic 1 m t) p
+  pub record-one : (e p : ℕ) → secondAt (cubic 1 m t) (p - 1) 0 0 ≡ none → openedAt (endingAt (cubic 1 m t) e) p ≡ openedAt (endingAt (quadratic 1 m t) e) p
   unfolding openedAt
-  record-one p z i =
-      record { n = 1; m = m; place = record { 0 = p }; value = value-same (p - 1) i; slots = slots-same (p - 1) i; seconds = seconds-same (p - 1) z i }
+  record-one e p z =
+      let q = p - 1 in
+      let e1 = value-ending (cubic 1 m t) e q ∙ value-same q ∙ sym (value-ending (quadratic 1 m t) e q) in
+      let e2 = slots-ending (cubic 1 m t) e q 0 20 ∙ slots-same q ∙ sym (slots-ending (quadratic 1 m t) e q 0 20) in
+      let e3 = seconds-ending (cubic 1 m t) e q 0 20 ∙ seconds-same q z ∙ sym (seconds-ending (quadratic 1 m t) e q 0 20) in
+      λ i. record { n = 1; m = m; place = record { 0 = p }; value = e1 i; slots = e2 i; seconds = e3 i; end = record { 0 = e } }

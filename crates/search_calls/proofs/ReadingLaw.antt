@@ -15,9 +15,9 @@ use Rattle.tables.proofs.IndexLaw.{count-le}
 use Rattle.cubic_tables.proofs.OrderLaw.{cubic-count-le}
 use Rattle.given.specs.declared.Degree.{Degree}
 use Rattle.given.specs.declared.Degree.the-variants.{Two, Three}
-use Rattle.given.specs.Given.{Given, depthOf, countIn, tableWith, degreeTold}
+use Rattle.given.specs.Given.{Given, depthOf, countIn, tableWith, quadratic, endingAt, degreeTold}
 use Rattle.given.specs.Slots.{secondsAt}
-use Rattle.given.proofs.SlotLaw.{seconds-two}
+use Rattle.given.proofs.SlotLaw.{seconds-two, seconds-ending}
 use Rattle.opening.specs.Opened.{openedAt}
 use Rattle.search_calls.specs.Call.{bytesTold, readingBy, readingOf}
 
@@ -66,7 +66,8 @@ reading-opened g words p told =
     one : g .n ≡ 1 → readingOf (g .n) words (openedAt g p) ≡ g .degree
     one e =
         let d : g .degree ≡ Two = told ∙ ap (λ (x : ℕ). degreeTold x words) e in
-        let s : openedAt g p .seconds ≡ replicate 420 0 = ap (λ (x : Degree). secondsAt (tableWith x (g .n) (g .m) (g .words)) (p - 1) 0 20) d
+        let s : openedAt g p .seconds ≡ replicate 420 0 = ap (λ (x : Degree). secondsAt (endingAt (tableWith x (g .n) (g .m) (g .words)) (g .end)) (p - 1) 0 20) d
+        ∙ seconds-ending (quadratic (g .n) (g .m) (g .words)) (g .end) (p - 1) 0 20
         ∙ sym (seconds-two (g .n) (g .m) (g .words) (p - 1)) in
         let l = secondsAt g (p - 1) 0 20 in
         sym (reading-two (g .n) words (getD l 0 0) (getD l 1 0) e (ap (λ (l : List ℕ). getD l 0 0) s) (ap (λ (l : List ℕ). getD l 1 0) s)) ∙ sym d

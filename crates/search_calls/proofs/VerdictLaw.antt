@@ -2,7 +2,7 @@
 use mathlib.Core.Path.{_≡_, refl, sym, ap, ap₂, _∙_}
 use mathlib.Core.Bool.{not, false}
 use mathlib.Core.List.{List}
-use Prim.Native.Nat.{ℕ, _+_, _*_, _%_, _^_}
+use Prim.Native.Nat.{ℕ, _+_, _*_, _%_}
 use native.Mathlib.Omega.{arith}
 use lib.Dec.{eqb, ltb}
 use lib.ListN.{length}
@@ -22,7 +22,7 @@ use Rattle.opening.specs.declared.Record.{Record}
 use Rattle.search.specs.declared.Answer.the-variants as answer
 use Rattle.search.specs.declared.Outcome.{Outcome}
 use Rattle.opening.specs.Opened.{openedAt}
-use Rattle.search.specs.Search.{trailBehind, searchVerdict, answerFrom, answerNumber, answerValues}
+use Rattle.search.specs.Search.{trailBehind, upTo, searchVerdict, answerFrom, answerNumber, answerValues}
 use Rattle.lists.specs.Listed.{foundIn, outcomeIn, listIn}
 use Rattle.wire.specs.Wire.{recordIn, recordWords}
 use Rattle.search_calls.specs.Call.{bytesTold, shaped, readingBy, inWords, callVerdict, doneOf, recordBytesAfter, listBytesAfter, answerBytesAfter}
@@ -33,32 +33,32 @@ module _ (n m a b c d : ℕ) where
   shapes-refused f v e =
       refused-next (ltb n 1) Size f _ _ e λ e. refused-next (ltb 20 n) Size f _ _ e λ e. refused-next (ltb m 1) Size f _ _ e λ e.
       refused-next (ltb 64 m) Size f _ _ e λ e. refused-next (not (eqb a (bytesTold n a))) Length f _ _ e λ e.
-      refused-next (not (eqb b 3720)) Length f _ _ e λ e. refused-next (not (eqb (c % 8) 0)) Length f _ _ e λ e.
+      refused-next (not (eqb b 3728)) Length f _ _ e λ e. refused-next (not (eqb (c % 8) 0)) Length f _ _ e λ e.
       refused-last (not (eqb d 40)) Length f v e
 
   -- each return of the code that asks them
   pub wrong-table : Within n m → (a ≡ bytesTold n a → ⊥) → Refused Length ≡ sized n m (shaped n a b c d Done)
   wrong-table w f = sym (sized-next n m (shaped n a b c d Done) w ∙ rw (ne-eqb a (bytesTold n a) f) refl)
 
-  pub wrong-record : Within n m → a ≡ bytesTold n a → (b ≡ 3720 → ⊥) → Refused Length ≡ sized n m (shaped n a b c d Done)
-  wrong-record w e f = sym (sized-next n m (shaped n a b c d Done) w ∙ rw (eq-eqb a (bytesTold n a) e, ne-eqb b 3720 f) refl)
+  pub wrong-record : Within n m → a ≡ bytesTold n a → (b ≡ 3728 → ⊥) → Refused Length ≡ sized n m (shaped n a b c d Done)
+  wrong-record w e f = sym (sized-next n m (shaped n a b c d Done) w ∙ rw (eq-eqb a (bytesTold n a) e, ne-eqb b 3728 f) refl)
 
-  pub wrong-list : Within n m → a ≡ bytesTold n a → b ≡ 3720 → (c % 8 ≡ 0 → ⊥) → Refused Length ≡ sized n m (shaped n a b c d Done)
-  wrong-list w e g f = sym (sized-next n m (shaped n a b c d Done) w ∙ rw (eq-eqb a (bytesTold n a) e, eq-eqb b 3720 g, ne-eqb (c % 8) 0 f) refl)
+  pub wrong-list : Within n m → a ≡ bytesTold n a → b ≡ 3728 → (c % 8 ≡ 0 → ⊥) → Refused Length ≡ sized n m (shaped n a b c d Done)
+  wrong-list w e g f = sym (sized-next n m (shaped n a b c d Done) w ∙ rw (eq-eqb a (bytesTold n a) e, eq-eqb b 3728 g, ne-eqb (c % 8) 0 f) refl)
 
-  pub wrong-answer : Within n m → a ≡ bytesTold n a → b ≡ 3720 → c % 8 ≡ 0 → (d ≡ 40 → ⊥) → Refused Length ≡ sized n m (shaped n a b c d Done)
+  pub wrong-answer : Within n m → a ≡ bytesTold n a → b ≡ 3728 → c % 8 ≡ 0 → (d ≡ 40 → ⊥) → Refused Length ≡ sized n m (shaped n a b c d Done)
   wrong-answer w e g h f =
-      sym (sized-next n m (shaped n a b c d Done) w ∙ rw (eq-eqb a (bytesTold n a) e, eq-eqb b 3720 g, eq-eqb (c % 8) 0 h, ne-eqb d 40 f) refl)
+      sym (sized-next n m (shaped n a b c d Done) w ∙ rw (eq-eqb a (bytesTold n a) e, eq-eqb b 3728 g, eq-eqb (c % 8) 0 h, ne-eqb d 40 f) refl)
 
-  pub right : Within n m → a ≡ bytesTold n a → b ≡ 3720 → c % 8 ≡ 0 → d ≡ 40 → Done ≡ sized n m (shaped n a b c d Done)
+  pub right : Within n m → a ≡ bytesTold n a → b ≡ 3728 → c % 8 ≡ 0 → d ≡ 40 → Done ≡ sized n m (shaped n a b c d Done)
   right w e g h f =
-      sym (sized-next n m (shaped n a b c d Done) w ∙ rw (eq-eqb a (bytesTold n a) e, eq-eqb b 3720 g, eq-eqb (c % 8) 0 h, eq-eqb d 40 f) refl)
+      sym (sized-next n m (shaped n a b c d Done) w ∙ rw (eq-eqb a (bytesTold n a) e, eq-eqb b 3728 g, eq-eqb (c % 8) 0 h, eq-eqb d 40 f) refl)
 
   -- all lengths are right, and v is asked next
   pub record Shaped : Type 0 where
     pub within : Within n m
     pub table : a ≡ bytesTold n a
-    pub rec : b ≡ 3720
+    pub rec : b ≡ 3728
     pub list : c % 8 ≡ 0
     pub answer : d ≡ 40
     pub next : (v : Verdict) → sized n m (shaped n a b c d v) ≡ v
@@ -72,18 +72,18 @@ module _ (n m a b c d : ℕ) where
       let e1 = sized-done n m (shaped n a b c d Done) e in
       let t1 = done-test (not (eqb a (bytesTold n a))) Length _ e1 in
       let e2 = done-next (not (eqb a (bytesTold n a))) Length _ e1 in
-      let t2 = done-test (not (eqb b 3720)) Length _ e2 in
-      let e3 = done-next (not (eqb b 3720)) Length _ e2 in
+      let t2 = done-test (not (eqb b 3728)) Length _ e2 in
+      let e3 = done-next (not (eqb b 3728)) Length _ e2 in
       let t3 = done-test (not (eqb (c % 8) 0)) Length _ e3 in
       let e4 = done-next (not (eqb (c % 8) 0)) Length _ e3 in
       let t4 = done-test (not (eqb d 40)) Length Done e4 in
       record {
         within = w;
         table = equal a (bytesTold n a) t1;
-        rec = equal b 3720 t2;
+        rec = equal b 3728 t2;
         list = equal (c % 8) 0 t3;
         answer = equal d 40 t4;
-        next = λ v. sized-next n m (shaped n a b c d v) w ∙ refuse-none (not (eqb a (bytesTold n a))) Length _ t1 ∙ refuse-none (not (eqb b 3720)) Length _ t2
+        next = λ v. sized-next n m (shaped n a b c d v) w ∙ refuse-none (not (eqb a (bytesTold n a))) Length _ t1 ∙ refuse-none (not (eqb b 3728)) Length _ t2
             ∙ refuse-none (not (eqb (c % 8) 0)) Length _ t3 ∙ refuse-none (not (eqb d 40)) Length v t4;
       }
 
@@ -136,7 +136,7 @@ module _ (g : Given) (rec : List ℕ) (budget : ℕ) (list answer : List ℕ) wh
   listBy v = after v list (listIn (inWords g) (recordIn rec) budget list)
 
   abbrev answerBy : Verdict → List ℕ
-  answerBy v = after v answer (bytesFrom (answerValues (3 ^ g .n) (given .answer)))
+  answerBy v = after v answer (bytesFrom (answerValues (recordIn rec .end .0) (given .answer)))
 
   pub call-refused : (w : Verdict) → w ≡ sized (g .n) (g .m) (shaped (g .n) (length (g .words)) (length rec) (length list) (length answer) Done) → (codeOf w ≡ 0 → ⊥)
       → Meets (codeOf w) rec list answer
@@ -145,19 +145,21 @@ module _ (g : Given) (rec : List ℕ) (budget : ℕ) (list answer : List ℕ) wh
       let i : judged ≡ Refused f = shapes-refused (g .n) (g .m) (length (g .words)) (length rec) (length list) (length answer) f said (sym e) in
       (sym (ap codeOf i), sym (ap recordBy i), sym (ap listBy i), sym (ap answerBy i))
 
-  pub call-done : Shaped (g .n) (g .m) (length (g .words)) (length rec) (length list) (length answer) → (e : ℕ) → e ≡ 3 ^ g .n
+  pub call-done : Shaped (g .n) (g .m) (length (g .words)) (length rec) (length list) (length answer) → (e : ℕ) → e ≡ recordIn rec .end .0
       → (o : Outcome) → o ≡ doneOf g rec budget list → (list′ : List ℕ) → list′ ≡ listIn (inWords g) (recordIn rec) budget list
       → (c : ℕ) → c ≡ answerNumber (o .answer) → (rec′ : List ℕ) → rec′ ≡ recordBytes (o .answer) (o .«record») rec
       → (answer′ : List ℕ) → answer′ ≡ answerBytes e (o .answer) answer → Meets c rec′ list′ answer′
   call-done h e ee o eg list′ el c ec rec′ ex answer′ ea =
-      let T = trailBehind (inWords g) in
-      let p = recordIn rec .place .0 in
+      let r = recordIn rec in
+      let t = upTo (inWords g) r in
+      let T = trailBehind t in
+      let p = r .place .0 in
       let i : judged ≡ said = h .next said in
       let w = reportOf T budget (length (wordsIn list)) p in
-      let z = openedAt (inWords g) (p + pointsIn T budget (length (wordsIn list)) p) in
-      let new = pasted list 0 (bytesFrom (foundIn (inWords g) p budget (length (wordsIn list)))) in (
+      let z = openedAt t (p + pointsIn T budget (length (wordsIn list)) p) in
+      let new = pasted list 0 (bytesFrom (foundIn t p budget (length (wordsIn list)))) in (
         ec ∙ ap (λ (x : Outcome). answerNumber (x .answer)) eg ∙ number-on said w z ∙ sym (ap codeOf i),
         ex ∙ ap (λ (x : Outcome). recordBytes (x .answer) (x .«record») rec) eg ∙ record-on said w z (given .«record») rec ∙ sym (ap recordBy i),
         el ∙ after-twice said list new ∙ sym (ap listBy i),
-        ea ∙ ap₂ (λ (x : ℕ) (y : Outcome). answerBytes x (y .answer) answer) ee eg ∙ answer-on said (3 ^ g .n) w z answer ∙ sym (ap answerBy i),
+        ea ∙ ap₂ (λ (x : ℕ) (y : Outcome). answerBytes x (y .answer) answer) ee eg ∙ answer-on said (r .end .0) w z answer ∙ sym (ap answerBy i),
       )

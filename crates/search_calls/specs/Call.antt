@@ -1,7 +1,7 @@
 -- What the search over bytes gives, for every table, record, budget, list and answer whatever, all as bytes.
 use mathlib.Core.Bool.{not, _&&_}
 use mathlib.Core.List.{List}
-use Prim.Native.Nat.{ℕ, _*_, _/_, _%_, _^_}
+use Prim.Native.Nat.{ℕ, _*_, _/_, _%_}
 use lib.Dec.{eqb}
 use lib.ListN.{length, getD}
 use Rattle.refusals.specs.declared.Refusal.the-variants.{Length}
@@ -24,7 +24,7 @@ use Rattle.answers.specs.Written.{answerLength}
 abbrev pub bytesTold : ℕ → ℕ → ℕ
 bytesTold n table = 16 * countIn (degreeTold n (table / 8)) n
 
--- refusal 2 over all arguments, given how many bytes each has: a table as many as it should, a record 3,720, an answer 40,
+-- refusal 2 over all arguments, given how many bytes each has: a table as many as it should, a record 3,728, an answer 40,
 -- and a list a multiple of 8
 abbrev pub shaped : ℕ → ℕ → ℕ → ℕ → ℕ → Verdict → Verdict
 shaped n table rec list answer v =
@@ -48,7 +48,7 @@ tableLent n m table rec = tableWith (readingOf n (length table / 8) (recordIn re
 
 -- a table that is lent as bytes, read as words
 abbrev pub inWords : Given → Given
-inWords g = record { n = g .n; m = g .m; degree = g .degree; words = wordsIn (g .words) }
+inWords g = record { n = g .n; m = g .m; degree = g .degree; words = wordsIn (g .words); end = g .end }
 
 -- what the call says, of a table g that is lent as bytes: 1, then 2 over all arguments, then what the search says of the words
 abbrev pub callVerdict : Given → List ℕ → ℕ → List ℕ → List ℕ → Verdict
@@ -72,4 +72,4 @@ listBytesAfter g rec budget list answer =
 
 abbrev pub answerBytesAfter : Given → List ℕ → ℕ → List ℕ → List ℕ → List ℕ
 answerBytesAfter g rec budget list answer =
-    after (callVerdict g rec budget list answer) answer (bytesFrom (answerValues (3 ^ g .n) (doneOf g rec budget list .answer)))
+    after (callVerdict g rec budget list answer) answer (bytesFrom (answerValues (recordIn rec .end .0) (doneOf g rec budget list .answer)))

@@ -133,7 +133,7 @@ pub fn search(
         return refused;
     }
     let r = wire::read_record(record);
-    let end = positions::power(n);
+    let end = r.end.0;
     let o = over_bytes(n, m, table, r, budget, list);
     let said = o.answer;
     let moved = o.record;

@@ -6,7 +6,7 @@ ghost use lib.ListN.{length};
 ghost use Rattle.refusals.specs.Refusal.{codeOf};
 ghost use Rattle.reader.specs.Answers.{wordsAfter, callOf, callCode, toldAfter};
 ghost use Rattle.exchange.specs.Answers as tidied;
-ghost use Rattle.given.specs.Given.{tableTold};
+ghost use Rattle.given.specs.Given.{tableTold, endingAt};
 ghost use Rattle.number_calls.specs.Call.{convertCall, pointAfter, placeAfter, balancedAfter, unbalancedCall, unbalancedAfter};
 ghost use Rattle.table_calls.specs.Call.{checkCall, packCall, packLeft, copyCall, differencesLeft, coefficientsLeft, evaluateCall, evaluateAfter};
 ghost use Rattle.record_calls.specs.Call.{openCall, openAfter};
@@ -108,7 +108,7 @@ pub extern "C" fn vayudrit_unbalanced(n: u64, number: i64, point: &mut [u64]) ->
     number_calls::unbalanced(n, number, point)
 }
 
-// The record of a table of either degree at a place, as 465 words.
+// The record of a table of either degree at a place, as 466 words: its walk ends at 3^n.
 #[no_mangle]
 pub extern "C" fn vayudrit_open(
     n: u64,
@@ -121,6 +121,22 @@ pub extern "C" fn vayudrit_open(
         × (now («record» .exit) ≡ openAfter (tableTold n m (now (table .entry))) place (now («record» .entry))) ⌝ }
 {
     record_calls::open(n, m, table, place, record)
+}
+
+// The same for a walk that ends at a place from there to 3^n.
+#[no_mangle]
+pub extern "C" fn vayudrit_open_range(
+    n: u64,
+    m: u64,
+    table: &[u64],
+    place: u64,
+    end: u64,
+    record: &mut [u64],
+) -> u64
+    ensures { λ c. ⌜ (c ≡ codeOf (openCall (endingAt (tableTold n m (now (table .entry))) end) place (now («record» .entry))))
+        × (now («record» .exit) ≡ openAfter (endingAt (tableTold n m (now (table .entry))) end) place (now («record» .entry))) ⌝ }
+{
+    record_calls::open_range(n, m, table, place, end, record)
 }
 
 // The search for C, of a table of either degree: 0, or the number of the refusal, which alters no byte.

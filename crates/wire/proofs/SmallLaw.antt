@@ -1,4 +1,4 @@
--- The words of an opened record are words: below 2^64, and 465 of them, so that its bytes say it.
+-- The words of an opened record are words: below 2^64, and 466 of them, so that its bytes say it.
 use mathlib.Core.Path.{_≡_, refl, sym, ap, _∙_}
 use mathlib.Core.Bool.{Bool, true, false, _&&_}
 use mathlib.Core.List.{List, [], _∷_, _++_}
@@ -86,34 +86,41 @@ module _ (g : Given) where
         below-append (2 ^ 64) (tabled (suc k) (λ i. secondAt g q b (b + i))) (secondsAt g q (suc b) k)
         (tabled-below wide (suc k) (λ i. secondAt g q b (b + i)) (λ i. second-legal q b (b + i))) (seconds-below q (suc b) k)
 
-    pub record-below : g .n < 2 ^ 64 → (p : ℕ) → p < 2 ^ 64 → AllBelow (2 ^ 64) (recordWords (openedAt g p))
+    pub record-below : g .n < 2 ^ 64 → g .end < 2 ^ 64 → (p : ℕ) → p < 2 ^ 64 → AllBelow (2 ^ 64) (recordWords (openedAt g p))
     unfolding openedAt
-    record-below hn p hp =
+    record-below hn he p hp =
         let v = valueAt g (p - 1) in
         let s = small v wide (value-legal (p - 1)) in
-        let w = wordsFrom (slotsAt g (p - 1) 0 20) ++ secondsAt g (p - 1) 0 20 in
+        let last = secondsAt g (p - 1) 0 20 ++ g .end ∷ [] in
+        let w = wordsFrom (slotsAt g (p - 1) 0 20) ++ last in
         below-cons (2 ^ 64) (g .n) (g .m ∷ p ∷ v .high ∷ v .low ∷ w) hn
         (below-cons (2 ^ 64) (g .m) (p ∷ v .high ∷ v .low ∷ w) (omega (arith, wide))
         (below-cons (2 ^ 64) p (v .high ∷ v .low ∷ w) hp
         (below-cons (2 ^ 64) (v .high) (v .low ∷ w) (s .0) (below-cons (2 ^ 64) (v .low) w (s .1)
-        (below-append (2 ^ 64) (wordsFrom (slotsAt g (p - 1) 0 20)) (secondsAt g (p - 1) 0 20) (slots-below (p - 1) 0 20) (seconds-below (p - 1) 0 20))))))
+        (below-append (2 ^ 64) (wordsFrom (slotsAt g (p - 1) 0 20)) last (slots-below (p - 1) 0 20)
+        (below-append (2 ^ 64) (secondsAt g (p - 1) 0 20) (g .end ∷ []) (seconds-below (p - 1) 0 20) (below-cons (2 ^ 64) (g .end) [] he (below-nil (2 ^ 64)))))))))
 
   slots-twenty : (p : ℕ) → length (openedAt g p .slots) ≡ 20
   unfolding openedAt
   slots-twenty p = slots-length g (p - 1) 0 20
 
-  pub record-long : (p : ℕ) → length (recordWords (openedAt g p)) ≡ 465
+  seconds-all : (p : ℕ) → length (openedAt g p .seconds) ≡ 420
+  unfolding openedAt
+  seconds-all p = seconds-long g (p - 1)
+
+  pub record-long : (p : ℕ) → length (recordWords (openedAt g p)) ≡ 466
   unfolding openedAt
   record-long p =
       let w = wordsFrom (slotsAt g (p - 1) 0 20) in
-      omega (arith, length-append w (secondsAt g (p - 1) 0 20), words-length (slotsAt g (p - 1) 0 20), slots-length g (p - 1) 0 20, seconds-long g (p - 1))
+      let s = secondsAt g (p - 1) 0 20 in
+      omega (arith, length-append w (s ++ g .end ∷ []), length-append s (g .end ∷ []), words-length (slotsAt g (p - 1) 0 20), slots-length g (p - 1) 0 20, seconds-long g (p - 1))
 
-  -- the bytes of an opened record are 3,720, and say it
-  pub record-bytes : (p : ℕ) → length (bytesFrom (recordWords (openedAt g p))) ≡ 3720
+  -- the bytes of an opened record are 3,728, and say it
+  pub record-bytes : (p : ℕ) → length (bytesFrom (recordWords (openedAt g p))) ≡ 3728
   record-bytes p = omega (arith, length-from (recordWords (openedAt g p)), record-long p)
 
-  pub record-back : g .m ≤ 64 → g .n < 2 ^ 64 → (p : ℕ) → p < 2 ^ 64 → recordIn (bytesFrom (recordWords (openedAt g p))) ≡ openedAt g p
-  record-back wide hn p hp =
+  pub record-back : g .m ≤ 64 → g .n < 2 ^ 64 → g .end < 2 ^ 64 → (p : ℕ) → p < 2 ^ 64 → recordIn (bytesFrom (recordWords (openedAt g p))) ≡ openedAt g p
+  record-back wide hn he p hp =
       let w = recordWords (openedAt g p) in
-      ap recordOf (ap (λ (k : ℕ). wordsOf k (bytesFrom w)) (sym (record-long p)) ∙ words-bytes w (record-below wide hn p hp))
-      ∙ record-words (openedAt g p) (slots-twenty p)
+      ap recordOf (ap (λ (k : ℕ). wordsOf k (bytesFrom w)) (sym (record-long p)) ∙ words-bytes w (record-below wide hn he p hp))
+      ∙ record-words (openedAt g p) (slots-twenty p) (seconds-all p)

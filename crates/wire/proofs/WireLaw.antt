@@ -1,12 +1,12 @@
 -- A record as words: one slot after another, and the round trips.
-use mathlib.Core.Path.{_≡_, refl, sym, ap, ap₂, _∙_}
+use mathlib.Core.Path.{_≡_, refl, sym, ap, ap₂, subst, _∙_}
 use mathlib.Core.List.{List, [], _∷_, _++_, append-assoc, append-nil}
 use Prim.Native.Nat.{ℕ, zero, suc, _+_, _-_, _*_, _≤_, _<_}
 use native.Mathlib.Numerals.{add-one}
 use native.Mathlib.Omega.{arith}
 use mir.Val.{Val}
 use lib.ListN.{length, getD, set, take, drop, length-set, length-drop, length-map, length-append, take-append-drop, drop-of-length-le}
-use lib.Seq.{take-suc, take-suc-set, drop-cons, take-all, drop-length, length-take-le, take-at, drop-at}
+use lib.Seq.{take-suc, take-suc-set, drop-cons, take-all, drop-length, length-take-le, take-at, drop-at, getD-append-add, getD-drop}
 use Rattle.trits.specs.declared.Vector.{Vector}
 use Rattle.codec.specs.Codec.{wordsOf, bytesFrom, pasted}
 use Rattle.codec.proofs.CodecLaw.{words-join, length-words, length-from, from-append, paste-paste, paste-whole}
@@ -137,15 +137,31 @@ words-length (v ∷ vs) = omega (arith, words-length vs)
 first-length : (r : Record) → length (r .slots) ≡ 20 → length (firstWords r) ≡ 45
 first-length r e = omega (arith, words-length (r .slots), e)
 
-pub record-words : (r : Record) → length (r .slots) ≡ 20 → recordOf (recordWords r) ≡ r
-record-words r e =
+-- an entry of two lists joined, past the first
+past : (x y : List ℕ) (k i : ℕ) → k ≡ length x + i → getD (x ++ y) k 0 ≡ getD y i 0
+past x y k i e = ap (λ (j : ℕ). getD (x ++ y) j 0) e ∙ getD-append-add x y i 0
+
+-- three parts of 45, 420 and one word
+module _ (x y : List ℕ) (e : ℕ) (lx : length x ≡ 45) (ly : length y ≡ 420) where
+  pub three-first : take 45 (x ++ (y ++ e ∷ [])) ≡ x
+  three-first = take-at x (y ++ e ∷ []) 45 lx
+
+  pub three-second : take 420 (drop 45 (x ++ (y ++ e ∷ []))) ≡ y
+  three-second = ap (take 420) (drop-at x (y ++ e ∷ []) 45 lx) ∙ take-at y (e ∷ []) 420 ly
+
+  pub three-last : getD (x ++ (y ++ e ∷ [])) 465 0 ≡ e
+  three-last = past x (y ++ e ∷ []) 465 420 (omega (arith, lx)) ∙ past y (e ∷ []) 420 0 (omega (arith, ly))
+
+pub record-words : (r : Record) → length (r .slots) ≡ 20 → length (r .seconds) ≡ 420 → recordOf (recordWords r) ≡ r
+record-words r e f =
     let l = first-length r e in
-    ap₂ recordWith (take-at (firstWords r) (r .seconds) 45 l) (drop-at (firstWords r) (r .seconds) 45 l)
-    ∙ ap (λ (s : List Vector). record { n = r .n; m = r .m; place = r .place; value = r .value; slots = s; seconds = r .seconds }) (vectors-words (r .slots))
+    ap₂ (λ (w s : List ℕ). recordWith w s (getD (recordWords r) 465 0)) (three-first (firstWords r) (r .seconds) (r .end .0) l f) (three-second (firstWords r) (r .seconds) (r .end .0) l f)
+    ∙ ap₂ (λ (s : List Vector) (x : ℕ). record { n = r .n; m = r .m; place = r .place; value = r .value; slots = s; seconds = r .seconds; end = record { 0 = x } })
+    (vectors-words (r .slots)) (three-last (firstWords r) (r .seconds) (r .end .0) l f)
 
 -- the first words of a record that was read are those that were read
-first-words : (w s : List ℕ) → length w ≡ 45 → firstWords (recordWith w s) ≡ w
-first-words w s e =
+first-words : (w s : List ℕ) (x : ℕ) → length w ≡ 45 → firstWords (recordWith w s x) ≡ w
+first-words w s x e =
     let d : length (drop 5 w) ≡ 2 * 20 = length-drop 5 w ∙ omega (arith, e) in
     ap (λ (m : List ℕ). getD w 0 0 ∷ getD w 1 0 ∷ getD w 2 0 ∷ getD w 3 0 ∷ getD w 4 0 ∷ m) (words-vectors 20 (drop 5 w) d)
     ∙ sym (
@@ -155,19 +171,47 @@ first-words w s e =
     ∙ ap (λ (m : List ℕ). getD w 2 0 ∷ m) (drop-cons w 3 0 (omega (arith, e))
     ∙ ap (λ (m : List ℕ). getD w 3 0 ∷ m) (drop-cons w 4 0 (omega (arith, e)))))))
 
-pub words-record : (w : List ℕ) → length w ≡ 465 → recordWords (recordOf w) ≡ w
+pub words-record : (w : List ℕ) → length w ≡ 466 → recordWords (recordOf w) ≡ w
 words-record w e =
-    ap (λ (m : List ℕ). m ++ drop 45 w) (first-words (take 45 w) (drop 45 w) (length-take-le 45 w (omega (arith, e)))) ∙ take-append-drop 45 w
+    let s = take 420 (drop 45 w) in
+    let x = getD w 465 0 in
+    let d = length-drop 45 w in
+    let z : drop 421 (drop 45 w) ≡ [] = drop-of-length-le (drop 45 w) {i = 421} (omega (arith, d, e)) in
+    let l : x ∷ [] ≡ drop 420 (drop 45 w) =
+    ap₂ (λ (a : ℕ) (m : List ℕ). a ∷ m) (sym (getD-drop 45 w 420 0)) (sym z) ∙ sym (drop-cons (drop 45 w) 420 0 (omega (arith, d, e))) in
+    ap (λ (m : List ℕ). m ++ (s ++ x ∷ [])) (first-words (take 45 w) s x (length-take-le 45 w (omega (arith, e))))
+    ∙ ap (λ (m : List ℕ). take 45 w ++ (s ++ m)) l ∙ ap (λ (m : List ℕ). take 45 w ++ m) (take-append-drop 420 (drop 45 w)) ∙ take-append-drop 45 w
 
--- ---- in two parts: the first words, and those of the second slots
+-- ---- in three parts: the first words, those of the second slots, and the end
 
-pub read-parts : (b : List ℕ) → recordWith (wordsOf 45 b) (wordsOf 420 (take (length b - 360) (drop 360 b))) ≡ recordOf (wordsOf 465 b)
+one-word : (b : List ℕ) → wordsOf 1 b ≡ getD (wordsOf 1 b) 0 0 ∷ []
+unfolding wordsOf
+one-word b = refl
+
+pub read-parts : (b : List ℕ) → recordWith (wordsOf 45 b) (wordsOf 420 (take (length b - 360) (drop 360 b))) (getD (wordsOf 1 (take (length b - 3720) (drop 3720 b))) 0 0) ≡ recordOf (wordsOf 466 b)
 read-parts b =
-    let j : wordsOf 465 b ≡ wordsOf 45 b ++ wordsOf 420 (drop 360 b) = words-join 45 420 b in
+    let x = wordsOf 45 b in
+    let y = wordsOf 420 (drop 360 b) in
+    let e = getD (wordsOf 1 (drop 3720 b)) 0 0 in
+    let lx = length-words 45 b in
+    let ly = length-words 420 (drop 360 b) in
+    let i : wordsOf 465 b ≡ x ++ y = words-join 45 420 b in
+    let j : wordsOf 466 b ≡ x ++ (y ++ e ∷ []) =
+    words-join 465 1 b ∙ ap₂ (λ (u v : List ℕ). u ++ v) i (one-word (drop 3720 b)) ∙ append-assoc x y (e ∷ []) in
     let s : take (length b - 360) (drop 360 b) ≡ drop 360 b = take-all (length b - 360) (drop 360 b) (omega (arith, length-drop 360 b)) in
-    ap₂ recordWith
-    (sym (ap (take 45) j ∙ take-at (wordsOf 45 b) (wordsOf 420 (drop 360 b)) 45 (length-words 45 b)))
-    (ap (wordsOf 420) s ∙ sym (ap (drop 45) j ∙ drop-at (wordsOf 45 b) (wordsOf 420 (drop 360 b)) 45 (length-words 45 b)))
+    let t : take (length b - 3720) (drop 3720 b) ≡ drop 3720 b = take-all (length b - 3720) (drop 3720 b) (omega (arith, length-drop 3720 b)) in
+    ap₂ (λ (m n : List ℕ). recordWith x (wordsOf 420 m) (getD (wordsOf 1 n) 0 0)) s t
+    ∙ sym (ap recordOf j
+    ∙ ap₂ (λ (m n : List ℕ). recordWith m n (getD (x ++ (y ++ e ∷ [])) 465 0)) (three-first x y e lx ly) (three-second x y e lx ly)
+    ∙ ap (recordWith x y) (three-last x y e lx ly))
+
+-- the end is written after the second slots
+pub put-end : (w s : List ℕ) (i e : ℕ) → i ≡ 420 → length w ≡ 421 → length s ≡ 420 → take i w ≡ take i s → set w 420 e ≡ s ++ e ∷ []
+put-end w s i e h lw ls t =
+    let a = length-set w 420 e in
+    let u : take 420 w ≡ take 420 s = subst (λ (k : ℕ). take k w ≡ take k s) h t in
+    sym (take-all 421 (set w 420 e) (omega (arith, a, lw))) ∙ take-suc-set w 420 e (omega (arith, lw))
+    ∙ ap (λ (m : List ℕ). m ++ e ∷ []) (u ∙ take-all 420 s (omega (arith, ls)))
 
 -- each written into its own words
 pub put-parts : (w x y : List ℕ) (k : ℕ) → length x ≡ 45 → length (drop 45 w) ≤ k → take 45 (x ++ drop 45 w) ++ (y ++ drop k (drop 45 (x ++ drop 45 w))) ≡ x ++ y
@@ -176,12 +220,20 @@ put-parts w x y k e h =
     ∙ ap (λ (u : List ℕ). x ++ u) (append-nil y)
 
 -- and into bytes, one after the other
-pub write-parts : (b u v : List ℕ) → length b ≡ 3720 → length u ≡ 45 → length v ≡ 420 → pasted (pasted b 0 (bytesFrom u)) 360 (bytesFrom v) ≡ bytesFrom (u ++ v)
-write-parts b u v e eu ev =
-    let lu : length (bytesFrom u) ≡ 360 = length-from u ∙ ap (λ (k : ℕ). 8 * k) eu in
-    let lv : length (bytesFrom v) ≡ 3360 = length-from v ∙ ap (λ (k : ℕ). 8 * k) ev in
-    let at : 360 ≡ 0 + length (bytesFrom u) = omega (arith, lu) in
-    ap (λ (k : ℕ). pasted (pasted b 0 (bytesFrom u)) k (bytesFrom v)) at
-    ∙ paste-paste b 0 (bytesFrom u) (bytesFrom v) (omega (arith, lu, lv, e))
+write-next : (b u v : List ℕ) (k : ℕ) → k ≡ 8 * length u → 8 * length u + 8 * length v ≤ length b → pasted (pasted b 0 (bytesFrom u)) k (bytesFrom v) ≡ pasted b 0 (bytesFrom (u ++ v))
+write-next b u v k e h =
+    let lu = length-from u in
+    let lv = length-from v in
+    let at : k ≡ 0 + length (bytesFrom u) = omega (arith, e, lu) in
+    ap (λ (j : ℕ). pasted (pasted b 0 (bytesFrom u)) j (bytesFrom v)) at
+    ∙ paste-paste b 0 (bytesFrom u) (bytesFrom v) (omega (arith, lu, lv, h))
     ∙ ap (pasted b 0) (sym (from-append u v))
-    ∙ paste-whole b (u ++ v) (omega (arith, e, length-append u v, eu, ev))
+
+pub write-parts : (b u v : List ℕ) (x : ℕ) → length b ≡ 3728 → length u ≡ 45 → length v ≡ 420
+    → pasted (pasted (pasted b 0 (bytesFrom u)) 360 (bytesFrom v)) 3720 (bytesFrom (x ∷ [])) ≡ bytesFrom (u ++ (v ++ x ∷ []))
+write-parts b u v x e eu ev =
+    let l = length-append u v in
+    ap (λ (m : List ℕ). pasted m 3720 (bytesFrom (x ∷ []))) (write-next b u v 360 (omega (arith, eu)) (omega (arith, eu, ev, e)))
+    ∙ write-next b (u ++ v) (x ∷ []) 3720 (omega (arith, l, eu, ev)) (omega (arith, l, eu, ev, e))
+    ∙ paste-whole b ((u ++ v) ++ x ∷ []) (omega (arith, e, length-append (u ++ v) (x ∷ []), l, eu, ev))
+    ∙ ap bytesFrom (append-assoc u v (x ∷ []))

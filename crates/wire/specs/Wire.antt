@@ -21,13 +21,13 @@ vectorsOf (h ∷ l ∷ t) = record { high = h; low = l } ∷ vectorsOf t
 abbrev pub firstWords : Record → List ℕ
 firstWords r = r .n ∷ r .m ∷ r .place .0 ∷ r .value .high ∷ r .value .low ∷ wordsFrom (r .slots)
 
--- a record as 465 words: then the second slots, as they stand in it
+-- a record as 466 words: then the second slots, as they stand in it, and the end
 abbrev pub recordWords : Record → List ℕ
-recordWords r = firstWords r ++ r .seconds
+recordWords r = firstWords r ++ (r .seconds ++ r .end .0 ∷ [])
 
--- the record of its first 45 words w and of the words s of its second slots
-abbrev pub recordWith : List ℕ → List ℕ → Record
-recordWith w s =
+-- the record of its first 45 words w, of the words s of its second slots and of its end e
+abbrev pub recordWith : List ℕ → List ℕ → ℕ → Record
+recordWith w s e =
     record {
       n = getD w 0 0;
       m = getD w 1 0;
@@ -35,12 +35,13 @@ recordWith w s =
       value = record { high = getD w 3 0; low = getD w 4 0 };
       slots = vectorsOf (drop 5 w);
       seconds = s;
+      end = record { 0 = e };
     }
 
--- the record that 465 words stand for
+-- the record that 466 words stand for
 abbrev pub recordOf : List ℕ → Record
-recordOf w = recordWith (take limits.firstWords w) (drop limits.firstWords w)
+recordOf w = recordWith (take limits.firstWords w) (take limits.secondWords (drop limits.firstWords w)) (getD w limits.endWord 0)
 
--- the record of 3,720 bytes
+-- the record of 3,728 bytes
 abbrev pub recordIn : List ℕ → Record
 recordIn b = recordOf (wordsOf limits.recordWords b)

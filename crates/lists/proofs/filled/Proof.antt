@@ -1,12 +1,9 @@
 -- `lists::filled` meets its contract: what was done and what is still to be done make up the whole call.
 use mathlib.Core.Path.{_≡_, refl, sym, ap, subst, _∙_}
-use mathlib.Core.Logic.{⊎-elim, inl, inr}
 use Prim.Native.Nat.{ℕ, _+_, _-_, _/_, _^_, _≤_, _<_}
 use native.Mathlib.Omega.{arith}
 use borrow.Author.Tests.{not-true, not-false}
 use lib.ListN.{length}
-use Rattle.walks.specs.Calls.{stopFrom}
-use Rattle.given.proofs.TableLaw.{within}
 use Rattle.lists.proofs.PieceLaw.{Held, starts, long, at-within, own, closed, points-fit, found-fit, few, moved, again}
 use Rattle.given.specs.Given.{tableWith}
 use borrow.Author.Needs.{needs}
@@ -14,7 +11,6 @@ use Rattle.lists.proofs.filled.Statement.{statement}
 use Rattle.lists.proofs.filled.Tie as tie
 use Rattle.lists.proofs.filled.Reads as reads
 use Rattle.lists.proofs.filled.Lts as lts
-use Rattle.positions.proofs.power.Reads as power-reads
 use Rattle.lists.proofs.did.Reads as did-reads
 use Rattle.lists.proofs.goes_on.Reads as goes-on-reads
 use Rattle.lists.proofs.part.Reads as part-reads
@@ -27,14 +23,10 @@ Inv-loop degree n m table budget words₀ list₀ end len s₀ left₀ at₀ add
 abbrev μ-loop : tie.MeasureT-loop
 μ-loop degree n m table budget words₀ list₀ end len s₀ left₀ at₀ additions₀ words list s left at additions = left
 
--- src/lib.rt:97:9
-power-requires : tie.Need-power-requires Inv-loop μ-loop
-power-requires c κs = search needs
-
 -- src/lib.rt:103:5
 loop-holds : tie.Need-loop-holds Inv-loop μ-loop
 loop-holds c =
-    let s = c .before .before .before .before in
+    let s = c .before .before .before in
     let a = s .args in
     let z : 0 ≡ a .budget - a .budget = omega arith in
     (subst (λ (k : ℕ). Held (tableWith (a .degree) (a .n) (a .m) (a .table .now)) (a .r) (a .budget) (a .list .now) k (a .budget) 0 0 (a .list .now) (a .r)) z (starts (tableWith (a .degree) (a .n) (a .m) (a .table .now)) (a .r) (a .budget) (a .list .now) (s .pre .1)), s .pre .2, refl)
@@ -43,7 +35,7 @@ loop-holds c =
 part-requires : tie.Need-part-requires Inv-loop μ-loop
 part-requires c κs =
     let l = c .before .before .loop in
-    let s = c .before .before .before .before .before .before .before in
+    let s = c .before .before .before .before .before .before in
     let a = s .args in
     (s .pre .0, own (tableWith (a .degree) (a .n) (a .m) (a .table .now)) (a .r) (a .budget) (a .list .now) (a .budget - l .left) (l .left) (l .at) (l .additions) (l .list) (l .s) (l .inv .0), omega (arith, at-within (tableWith (a .degree) (a .n) (a .m) (a .table .now)) (a .r) (a .budget) (a .list .now) (a .budget - l .left) (l .left) (l .at) (l .additions) (l .list) (l .s) (l .inv .0), long (tableWith (a .degree) (a .n) (a .m) (a .table .now)) (a .r) (a .budget) (a .list .now) (a .budget - l .left) (l .left) (l .at) (l .additions) (l .list) (l .s) (l .inv .0)))
 
@@ -56,16 +48,16 @@ add-at : tie.Need-add-at Inv-loop μ-loop
 add-at c =
     let pt = c .before .before .before .before .before .before in
     let l = pt .before .before .before .loop in
-    let a = pt .before .before .before .before .before .before .before .before .args in
+    let a = pt .before .before .before .before .before .before .before .args in
     let w = c .before .did in
-    omega (arith, found-fit (tableWith (a .degree) (a .n) (a .m) (a .table .now)) (a .r) (a .budget) (a .list .now) (a .budget - l .left) (l .left) (l .at) (l .additions) (l .list) (l .s) (l .inv .0) (length (l .words)) (pt .part .result) (pt .part .last .1 .1 .1 .1 .1 .1 .1 .0) (w .result) (pt .part .ensures .0) (pt .part .ensures .1) (w .ensures), pt .before .before .before .before .before .before .before .before .good .1 .1 .1 .1 .1 .1 .1 .0 .0)
+    omega (arith, found-fit (tableWith (a .degree) (a .n) (a .m) (a .table .now)) (a .r) (a .budget) (a .list .now) (a .budget - l .left) (l .left) (l .at) (l .additions) (l .list) (l .s) (l .inv .0) (length (l .words)) (pt .part .result) (pt .part .last .1 .1 .1 .1 .1 .1 .1 .0) (w .result) (pt .part .ensures .0) (pt .part .ensures .1) (w .ensures), pt .before .before .before .before .before .before .before .good .1 .1 .1 .1 .1 .1 .1 .0 .0)
 
 -- src/lib.rt:109:9
 sub-left : tie.Need-sub-left Inv-loop μ-loop
 sub-left c =
     let pt = c .before .before .before .before .before .before .before in
     let l = pt .before .before .before .loop in
-    let a = pt .before .before .before .before .before .before .before .before .args in
+    let a = pt .before .before .before .before .before .before .before .args in
     let w = c .before .before .did in
     omega (arith, points-fit (tableWith (a .degree) (a .n) (a .m) (a .table .now)) (a .r) (a .budget) (a .list .now) (a .budget - l .left) (l .left) (l .at) (l .additions) (l .list) (l .s) (l .inv .0) (length (l .words)) (pt .part .result) (pt .part .last .1 .1 .1 .1 .1 .1 .1 .0) (w .result) (pt .part .ensures .0) (pt .part .ensures .1) (w .ensures))
 
@@ -74,16 +66,16 @@ add-additions : tie.Need-add-additions Inv-loop μ-loop
 add-additions c =
     let pt = c .before .before .before .before .before .before .before .before in
     let l = pt .before .before .before .loop in
-    let a = pt .before .before .before .before .before .before .before .before .args in
+    let a = pt .before .before .before .before .before .before .before .args in
     let w = c .before .before .before .did in
-    omega (arith, few (tableWith (a .degree) (a .n) (a .m) (a .table .now)) (a .r) (a .budget) (a .list .now) (a .budget - l .left) (l .left) (l .at) (l .additions) (l .list) (l .s) (l .inv .0) (length (l .words)) (pt .part .result) (pt .part .last .1 .1 .1 .1 .1 .1 .1 .0) (w .result) (pt .part .ensures .0) (pt .part .ensures .1) (w .ensures) (pt .before .before .before .before .before .before .before .before .pre .0))
+    omega (arith, few (tableWith (a .degree) (a .n) (a .m) (a .table .now)) (a .r) (a .budget) (a .list .now) (a .budget - l .left) (l .left) (l .at) (l .additions) (l .list) (l .s) (l .inv .0) (length (l .words)) (pt .part .result) (pt .part .last .1 .1 .1 .1 .1 .1 .1 .0) (w .result) (pt .part .ensures .0) (pt .part .ensures .1) (w .ensures) (pt .before .before .before .before .before .before .before .pre .0))
 
 -- src/lib.rt:112:39
 sub-goes-on : tie.Need-sub-goes-on Inv-loop μ-loop
 sub-goes-on c =
     let pt = c .before .before .before .before .before .before .before .before in
     let l = pt .before .before .before .loop in
-    let a = pt .before .before .before .before .before .before .before .before .args in
+    let a = pt .before .before .before .before .before .before .before .args in
     let w = c .before .before .before .did in
     omega (arith, found-fit (tableWith (a .degree) (a .n) (a .m) (a .table .now)) (a .r) (a .budget) (a .list .now) (a .budget - l .left) (l .left) (l .at) (l .additions) (l .list) (l .s) (l .inv .0) (length (l .words)) (pt .part .result) (pt .part .last .1 .1 .1 .1 .1 .1 .1 .0) (w .result) (pt .part .ensures .0) (pt .part .ensures .1) (w .ensures))
 
@@ -100,7 +92,7 @@ sub-points : tie.Need-sub-points Inv-loop μ-loop
 sub-points c =
     let pt = c .before .before .before .before .before .before .before .before .before .before .before in
     let l = pt .before .before .before .loop in
-    let a = pt .before .before .before .before .before .before .before .before .args in
+    let a = pt .before .before .before .before .before .before .before .args in
     let w = c .before .before .before .before .before .before .did in
     omega (arith, l .inv .0 .spare)
 
@@ -113,7 +105,7 @@ same-length-2 : tie.Need-same-length-2 Inv-loop μ-loop
 same-length-2 c =
     let pt = c .before .before .before .before .before .before .before .before .before .before .before in
     let l = pt .before .before .before .loop in
-    let a = pt .before .before .before .before .before .before .before .before .args in
+    let a = pt .before .before .before .before .before .before .before .args in
     let w = c .before .before .before .before .before .before .did in
     long (tableWith (a .degree) (a .n) (a .m) (a .table .now)) (a .r) (a .budget) (a .list .now) (a .budget - (l .left - w .result .points)) (l .left - w .result .points) (l .at + w .result .found) (l .additions + w .result .additions) _ _ (again (tableWith (a .degree) (a .n) (a .m) (a .table .now)) (a .r) (a .budget) (a .list .now) (l .left) (l .at) (l .additions) (l .list) (l .s) (l .inv .0) (length (l .words)) (pt .part .result) (pt .part .last .1 .1 .1 .1 .1 .1 .1 .0) (w .result) (pt .part .ensures .0) (pt .part .ensures .1) (w .ensures))
 
@@ -122,31 +114,28 @@ returns : tie.Need-returns Inv-loop μ-loop
 returns c =
     let pt = c .before .before .before .before .before .before .before .before .before .before .before in
     let l = pt .before .before .before .loop in
-    let a = pt .before .before .before .before .before .before .before .before .args in
+    let a = pt .before .before .before .before .before .before .before .args in
     let w = c .before .before .before .before .before .before .did in
-    let e : pt .before .before .before .before .power .result ≡ 3 ^ a .n = pt .before .before .before .before .power .ensures .0 (omega (arith, within (tableWith (a .degree) (a .n) (a .m) (a .table .now)) (pt .before .before .before .before .before .before .before .before .pre .0) .most)) in
     let o = c .before .before .goes-on .ensures .off (not-true _ (c .before .if1 .taken)) in
     closed (tableWith (a .degree) (a .n) (a .m) (a .table .now)) (a .r) (a .budget) (a .list .now) (a .budget - (l .left - w .result .points)) (l .left - w .result .points) (l .at + w .result .found) (l .additions + w .result .additions) _ _ (again (tableWith (a .degree) (a .n) (a .m) (a .table .now)) (a .r) (a .budget) (a .list .now) (l .left) (l .at) (l .additions) (l .list) (l .s) (l .inv .0) (length (l .words)) (pt .part .result) (pt .part .last .1 .1 .1 .1 .1 .1 .1 .0) (w .result) (pt .part .ensures .0) (pt .part .ensures .1) (w .ensures))
-    (c .stop-of .result) (c .stop-of .ensures ∙ ap (λ (x : ℕ). stopFrom (pt .part .result .«record» .place .0) x (l .at + w .result .found) (length (a .list .now) / 8)) e)
-    (⊎-elim (λ x. inl (x ∙ e)) (λ x. inr x) o)
+    (c .stop-of .result) (c .stop-of .ensures) o
 
 -- src/lib.rt:103:5
 loop-less : tie.Need-loop-less Inv-loop μ-loop
 loop-less c =
     let pt = c .before .before .before .before .before .before .before .before .before .before in
     let l = pt .before .before .before .loop in
-    let a = pt .before .before .before .before .before .before .before .before .args in
+    let a = pt .before .before .before .before .before .before .before .args in
     let w = c .before .before .before .before .before .did in
-    let e : pt .before .before .before .before .power .result ≡ 3 ^ a .n = pt .before .before .before .before .power .ensures .0 (omega (arith, within (tableWith (a .degree) (a .n) (a .m) (a .table .now)) (pt .before .before .before .before .before .before .before .before .pre .0) .most)) in
     let g = c .before .goes-on .ensures .on (not-false _ (c .if1 .left)) in
-    omega (arith, moved (tableWith (a .degree) (a .n) (a .m) (a .table .now)) (a .r) (a .budget) (a .list .now) (a .budget - l .left) (l .left) (l .at) (l .additions) (l .list) (l .s) (l .inv .0) (length (l .words)) (pt .part .result) (pt .part .last .1 .1 .1 .1 .1 .1 .1 .0) (w .result) (pt .part .ensures .0) (pt .part .ensures .1) (w .ensures) (l .inv .1) (λ x. g .0 (x ∙ sym e)) (g .1) (g .2), points-fit (tableWith (a .degree) (a .n) (a .m) (a .table .now)) (a .r) (a .budget) (a .list .now) (a .budget - l .left) (l .left) (l .at) (l .additions) (l .list) (l .s) (l .inv .0) (length (l .words)) (pt .part .result) (pt .part .last .1 .1 .1 .1 .1 .1 .1 .0) (w .result) (pt .part .ensures .0) (pt .part .ensures .1) (w .ensures))
+    omega (arith, moved (tableWith (a .degree) (a .n) (a .m) (a .table .now)) (a .r) (a .budget) (a .list .now) (a .budget - l .left) (l .left) (l .at) (l .additions) (l .list) (l .s) (l .inv .0) (length (l .words)) (pt .part .result) (pt .part .last .1 .1 .1 .1 .1 .1 .1 .0) (w .result) (pt .part .ensures .0) (pt .part .ensures .1) (w .ensures) (l .inv .1) (g .0) (g .1) (g .2), points-fit (tableWith (a .degree) (a .n) (a .m) (a .table .now)) (a .r) (a .budget) (a .list .now) (a .budget - l .left) (l .left) (l .at) (l .additions) (l .list) (l .s) (l .inv .0) (length (l .words)) (pt .part .result) (pt .part .last .1 .1 .1 .1 .1 .1 .1 .0) (w .result) (pt .part .ensures .0) (pt .part .ensures .1) (w .ensures))
 
 -- src/lib.rt:103:5
 loop-again : tie.Need-loop-again Inv-loop μ-loop
 loop-again c =
     let pt = c .before .before .before .before .before .before .before .before .before .before in
     let l = pt .before .before .before .loop in
-    let a = pt .before .before .before .before .before .before .before .before .args in
+    let a = pt .before .before .before .before .before .before .before .args in
     let w = c .before .before .before .before .before .did in
     (again (tableWith (a .degree) (a .n) (a .m) (a .table .now)) (a .r) (a .budget) (a .list .now) (l .left) (l .at) (l .additions) (l .list) (l .s) (l .inv .0) (length (l .words)) (pt .part .result) (pt .part .last .1 .1 .1 .1 .1 .1 .1 .0) (w .result) (pt .part .ensures .0) (pt .part .ensures .1) (w .ensures), omega (arith, l .inv .1, pt .part .kept .1 .1 .1 .1 .1 .1 .0), pt .part .kept .1 .1 .1 .1 .1 .1 .0 ∙ l .inv .2)
 
@@ -156,7 +145,6 @@ filled-spec =
     (tie.spec
     Inv-loop
     μ-loop
-    power-requires
     loop-holds
     part-requires
     did-requires

@@ -7,7 +7,7 @@ use lib.ListN.{length, take, drop}
 use lib.Seq.{length-take-le}
 use Rattle.walks.specs.declared.Report.{Report}
 use Rattle.codec.specs.Codec.{bytesFrom, pasted}
-use Rattle.search.specs.Search.{ranOf}
+use Rattle.search.specs.Search.{upTo, ranOf}
 use Rattle.lists.specs.Listed.{foundIn}
 use Rattle.lists.proofs.PieceLaw.{piece-outcome, piece-fits, piece-long, piece-listed, piece-size}
 use Rattle.given.specs.Given.{tableWith}
@@ -55,7 +55,7 @@ slice-reshare-prefix-encode c =
     let n = sc .before .before .lesser .result in
     let h : n ≤ length (a .words .now) = omega (arith, sc .before .before .lesser .ensures) in
     let e = ap (λ (w : Report). w .found) (c .did .ensures) in
-    omega (arith, e, piece-fits (tableWith (a .degree) (a .n) (a .m) (a .table .now)) (a .r .place .0) (a .left) n (a .words .now) (sc .ran .last .1 .1 .1 .1 .1 .1 .0) (sc .ran .result) h (sc .ran .ensures .0) (sc .ran .ensures .1), piece-long (tableWith (a .degree) (a .n) (a .m) (a .table .now)) (a .r .place .0) (a .left) n (a .words .now) (sc .ran .last .1 .1 .1 .1 .1 .1 .0) (sc .ran .result) h (sc .ran .ensures .0) (sc .ran .ensures .1), h)
+    omega (arith, e, piece-fits (upTo (tableWith (a .degree) (a .n) (a .m) (a .table .now)) (a .r)) (a .r .place .0) (a .left) n (a .words .now) (sc .ran .last .1 .1 .1 .1 .1 .1 .0) (sc .ran .result) h (sc .ran .ensures .0) (sc .ran .ensures .1), piece-long (upTo (tableWith (a .degree) (a .n) (a .m) (a .table .now)) (a .r)) (a .r .place .0) (a .left) n (a .words .now) (sc .ran .last .1 .1 .1 .1 .1 .1 .0) (sc .ran .result) h (sc .ran .ensures .0) (sc .ran .ensures .1), h)
 
 -- src/lib.rt:79:19
 slice-aggregate-encode : tie.Need-slice-aggregate-encode
@@ -65,7 +65,7 @@ slice-aggregate-encode c =
     let n = sc .before .before .lesser .result in
     let h : n ≤ length (a .words .now) = omega (arith, sc .before .before .lesser .ensures) in
     let e = ap (λ (w : Report). w .found) (c .before .did .ensures) in
-    e ∙ sym (piece-size (tableWith (a .degree) (a .n) (a .m) (a .table .now)) (a .r .place .0) (a .left) n (a .words .now) (sc .ran .last .1 .1 .1 .1 .1 .1 .0) (sc .ran .result) h (sc .ran .ensures .0) (sc .ran .ensures .1)) ∙ ap (λ (i : ℕ). length (take i (sc .ran .last .1 .1 .1 .1 .1 .1 .0 ++ drop n (a .words .now)))) (sym e)
+    e ∙ sym (piece-size (upTo (tableWith (a .degree) (a .n) (a .m) (a .table .now)) (a .r)) (a .r .place .0) (a .left) n (a .words .now) (sc .ran .last .1 .1 .1 .1 .1 .1 .0) (sc .ran .result) h (sc .ran .ensures .0) (sc .ran .ensures .1)) ∙ ap (λ (i : ℕ). length (take i (sc .ran .last .1 .1 .1 .1 .1 .1 .0 ++ drop n (a .words .now)))) (sym e)
 
 -- src/lib.rt:79:5
 encode-requires : tie.Need-encode-requires
@@ -75,8 +75,8 @@ encode-requires c κs =
     let n = sc .before .before .lesser .result in
     let h : n ≤ length (a .words .now) = omega (arith, sc .before .before .lesser .ensures) in
     let e = ap (λ (w : Report). w .found) (c .before .before .did .ensures) in
-    let i = ap (λ (i : ℕ). length (take i (sc .ran .last .1 .1 .1 .1 .1 .1 .0 ++ drop n (a .words .now)))) e ∙ piece-size (tableWith (a .degree) (a .n) (a .m) (a .table .now)) (a .r .place .0) (a .left) n (a .words .now) (sc .ran .last .1 .1 .1 .1 .1 .1 .0) (sc .ran .result) h (sc .ran .ensures .0) (sc .ran .ensures .1) in
-    omega (arith, i, piece-fits (tableWith (a .degree) (a .n) (a .m) (a .table .now)) (a .r .place .0) (a .left) n (a .words .now) (sc .ran .last .1 .1 .1 .1 .1 .1 .0) (sc .ran .result) h (sc .ran .ensures .0) (sc .ran .ensures .1), sc .before .before .lesser .ensures, sc .before .before .before .before .before .before .pre .2)
+    let i = ap (λ (i : ℕ). length (take i (sc .ran .last .1 .1 .1 .1 .1 .1 .0 ++ drop n (a .words .now)))) e ∙ piece-size (upTo (tableWith (a .degree) (a .n) (a .m) (a .table .now)) (a .r)) (a .r .place .0) (a .left) n (a .words .now) (sc .ran .last .1 .1 .1 .1 .1 .1 .0) (sc .ran .result) h (sc .ran .ensures .0) (sc .ran .ensures .1) in
+    omega (arith, i, piece-fits (upTo (tableWith (a .degree) (a .n) (a .m) (a .table .now)) (a .r)) (a .r .place .0) (a .left) n (a .words .now) (sc .ran .last .1 .1 .1 .1 .1 .1 .0) (sc .ran .result) h (sc .ran .ensures .0) (sc .ran .ensures .1), sc .before .before .lesser .ensures, sc .before .before .before .before .before .before .pre .2)
 
 -- src/lib.rt:59:1
 same-length : tie.Need-same-length
@@ -95,11 +95,11 @@ returns c =
     let h : n ≤ length (a .words .now) = omega (arith, sc .before .before .lesser .ensures) in
     let e = ap (λ (w : Report). w .found) (c .before .before .before .before .before .did .ensures) in
     let i = sc .before .before .lesser .ensures in (
-      piece-outcome (tableWith (a .degree) (a .n) (a .m) (a .table .now)) (a .r .place .0) (a .left) n (a .words .now) (sc .ran .last .1 .1 .1 .1 .1 .1 .0) (sc .ran .result) h (sc .ran .ensures .0) (sc .ran .ensures .1) ∙ ap (ranOf (tableWith (a .degree) (a .n) (a .m) (a .table .now)) (a .r .place .0) (a .left)) i,
+      piece-outcome (upTo (tableWith (a .degree) (a .n) (a .m) (a .table .now)) (a .r)) (a .r .place .0) (a .left) n (a .words .now) (sc .ran .last .1 .1 .1 .1 .1 .1 .0) (sc .ran .result) h (sc .ran .ensures .0) (sc .ran .ensures .1) ∙ ap (ranOf (upTo (tableWith (a .degree) (a .n) (a .m) (a .table .now)) (a .r)) (a .r .place .0) (a .left)) i,
       c .before .before .encode .ensures
           ∙ ap (λ (f : List ℕ). pasted (a .list .now) (8 * a .at) (bytesFrom f)) (
-          ap (λ (j : ℕ). take j (sc .ran .last .1 .1 .1 .1 .1 .1 .0 ++ drop n (a .words .now))) e ∙ piece-listed (tableWith (a .degree) (a .n) (a .m) (a .table .now)) (a .r .place .0) (a .left) n (a .words .now) (sc .ran .last .1 .1 .1 .1 .1 .1 .0) (sc .ran .result) h (sc .ran .ensures .0) (sc .ran .ensures .1)
-          ∙ ap (foundIn (tableWith (a .degree) (a .n) (a .m) (a .table .now)) (a .r .place .0) (a .left)) i),
+          ap (λ (j : ℕ). take j (sc .ran .last .1 .1 .1 .1 .1 .1 .0 ++ drop n (a .words .now))) e ∙ piece-listed (upTo (tableWith (a .degree) (a .n) (a .m) (a .table .now)) (a .r)) (a .r .place .0) (a .left) n (a .words .now) (sc .ran .last .1 .1 .1 .1 .1 .1 .0) (sc .ran .result) h (sc .ran .ensures .0) (sc .ran .ensures .1)
+          ∙ ap (foundIn (upTo (tableWith (a .degree) (a .n) (a .m) (a .table .now)) (a .r)) (a .r .place .0) (a .left)) i),
     )
 
 pub part-spec : {M : Type 1} → statement M

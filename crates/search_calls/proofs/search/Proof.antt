@@ -1,7 +1,6 @@
 -- `search_calls::search` meets its contract: the lengths are refused, or the search over the words says all.
 use mathlib.Core.Path.{ap, _∙_}
 use Prim.Native.Nat.{_/_}
-use native.Mathlib.Omega.{arith}
 use lib.ListN.{length}
 use Rattle.codec.specs.Codec.{wordsIn}
 use Rattle.given.specs.Given.{tableWith}
@@ -14,7 +13,6 @@ use Rattle.search_calls.proofs.search.Statement.{statement}
 use Rattle.search_calls.proofs.search.Tie as tie
 use Rattle.search_calls.proofs.search.Reads as reads
 use Rattle.search_calls.proofs.search.Lts as lts
-use Rattle.positions.proofs.power.Reads as power-reads
 use Rattle.refusals.proofs.code.Reads as code-reads
 use Rattle.answers.proofs.finish.Reads as finish-reads
 use Rattle.search_calls.proofs.over_bytes.Reads as over-bytes-reads
@@ -42,21 +40,18 @@ read-record-requires c κs =
     let h = shapes-passed (a .n) (a .m) (length (a .table .now)) (length (a .«record» .now)) (length (a .list .now)) (length (a .answer .now)) _ (b .before .shapes .ensures) _ (b .code .ensures) (c .before .if1 .left) in
     h .rec
 
-power-requires : tie.Need-power-requires
-power-requires c κs = search needs
-
 over-bytes-requires : tie.Need-over-bytes-requires
 over-bytes-requires c κs =
-    let b = c .before .before .before .before .before in
+    let b = c .before .before .before .before in
     let a = b .before .before .before .before .before .before .args in
-    let h = shapes-passed (a .n) (a .m) (length (a .table .now)) (length (a .«record» .now)) (length (a .list .now)) (length (a .answer .now)) _ (b .before .shapes .ensures) _ (b .code .ensures) (c .before .before .before .before .if1 .left) in
+    let h = shapes-passed (a .n) (a .m) (length (a .table .now)) (length (a .«record» .now)) (length (a .list .now)) (length (a .answer .now)) _ (b .before .shapes .ensures) _ (b .code .ensures) (c .before .before .before .if1 .left) in
     (h .within .most, h .table)
 
 finish-requires : tie.Need-finish-requires
 finish-requires c κs =
-    let b = c .before .before .before .before .before .before .before .before .before .before .before in
+    let b = c .before .before .before .before .before .before .before .before .before .before in
     let a = b .before .before .before .before .before .before .args in
-    let h = shapes-passed (a .n) (a .m) (length (a .table .now)) (length (a .«record» .now)) (length (a .list .now)) (length (a .answer .now)) _ (b .before .shapes .ensures) _ (b .code .ensures) (c .before .before .before .before .before .before .before .before .before .before .if1 .left) in
+    let h = shapes-passed (a .n) (a .m) (length (a .table .now)) (length (a .«record» .now)) (length (a .list .now)) (length (a .answer .now)) _ (b .before .shapes .ensures) _ (b .code .ensures) (c .before .before .before .before .before .before .before .before .before .if1 .left) in
     (h .rec, h .answer)
 
 same-length : tie.Need-same-length
@@ -70,16 +65,15 @@ same-length-3 c = search needs
 
 returns-2 : tie.Need-returns-2
 returns-2 c =
-    let b = c .before .before .before .before .before .before .before .before .before .before .before .before .before .before .before .before in
+    let b = c .before .before .before .before .before .before .before .before .before .before .before .before .before .before .before in
     let a = b .before .before .before .before .before .before .args in
-    let h = shapes-passed (a .n) (a .m) (length (a .table .now)) (length (a .«record» .now)) (length (a .list .now)) (length (a .answer .now)) _ (b .before .shapes .ensures) _ (b .code .ensures) (c .before .before .before .before .before .before .before .before .before .before .before .before .before .before .before .if1 .left) in
-    let r = c .before .before .before .before .before .before .before .before .before .before .before .before .before .read-record in
-    let p = c .before .before .before .before .before .before .before .before .before .before .before .before .power in
+    let h = shapes-passed (a .n) (a .m) (length (a .table .now)) (length (a .«record» .now)) (length (a .list .now)) (length (a .answer .now)) _ (b .before .shapes .ensures) _ (b .code .ensures) (c .before .before .before .before .before .before .before .before .before .before .before .before .before .before .if1 .left) in
+    let r = c .before .before .before .before .before .before .before .before .before .before .before .before .read-record in
     let o = c .before .before .before .before .before .before .before .before .before .before .over-bytes in
     let f = c .before .before .before .before .finish in
     let w = length (a .table .now) / 8 in
     call-done (tableLent (a .n) (a .m) (a .table .now) (a .«record» .now)) (a .«record» .now) (a .budget) (a .list .now) (a .answer .now) h
-    (p .result) (p .ensures .0 (omega (arith, h .within .most)))
+    (r .result .end .0) (ap (λ (x : Record). x .end .0) (r .ensures))
     (o .result) (o .ensures .0 ∙ ap (λ (x : Record). outcomeIn (tableWith (readingOf (a .n) w x) (a .n) (a .m) (wordsIn (a .table .now))) x (a .budget) (a .list .now)) (r .ensures))
     _ (o .ensures .1 ∙ ap (λ (x : Record). listIn (tableWith (readingOf (a .n) w x) (a .n) (a .m) (wordsIn (a .table .now))) x (a .budget) (a .list .now)) (r .ensures))
     _ (f .ensures .0) _ (f .ensures .1) _ (f .ensures .2)
@@ -92,7 +86,6 @@ search-spec =
     code-requires
     returns
     read-record-requires
-    power-requires
     over-bytes-requires
     finish-requires
     same-length

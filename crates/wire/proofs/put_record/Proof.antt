@@ -1,4 +1,4 @@
--- `wire::put_record` meets its contract: the first words, and then the second slots.
+-- `wire::put_record` meets its contract: the first words, and then the others.
 use mathlib.Core.Path.{_≡_, sym, ap₂, _∙_}
 use mathlib.Core.List.{List, _++_}
 use Prim.Native.Nat.{ℕ, _-_}
@@ -12,7 +12,7 @@ use Rattle.wire.proofs.put_record.Tie as tie
 use Rattle.wire.proofs.put_record.Reads as reads
 use Rattle.wire.proofs.put_record.Lts as lts
 use Rattle.wire.proofs.put_first.Reads as put-first-reads
-use Rattle.wire.proofs.put_seconds.Reads as put-seconds-reads
+use Rattle.wire.proofs.put_rest.Reads as put-rest-reads
 
 slice-relend-prefix-put-first : tie.Need-slice-relend-prefix-put-first
 slice-relend-prefix-put-first c = search needs
@@ -23,17 +23,17 @@ slice-aggregate-put-first c = let s = c .before .before in sym (length-take-le 4
 put-first-requires : tie.Need-put-first-requires
 put-first-requires c κs = let s = c .before .before in length-take-le 45 (s .args .w .now) (omega (arith, s .pre))
 
-sub-put-seconds : tie.Need-sub-put-seconds
-sub-put-seconds c = search needs
+sub-put-rest : tie.Need-sub-put-rest
+sub-put-rest c = search needs
 
-part-put-seconds-start : tie.Need-part-put-seconds-start
-part-put-seconds-start c = search needs
+part-put-rest-start : tie.Need-part-put-rest-start
+part-put-rest-start c = search needs
 
-part-put-seconds-end : tie.Need-part-put-seconds-end
-part-put-seconds-end c = search needs
+part-put-rest-end : tie.Need-part-put-rest-end
+part-put-rest-end c = search needs
 
-put-seconds-requires : tie.Need-put-seconds-requires
-put-seconds-requires c κs = search needs
+put-rest-requires : tie.Need-put-rest-requires
+put-rest-requires c κs = search needs
 
 same-length : tie.Need-same-length
 same-length c = search needs
@@ -46,7 +46,7 @@ returns c =
     let x = p .last .1 .0 in
     let n : length x ≡ 45 = p .kept .1 .0 ∙ length-take-le 45 w (omega (arith, s .pre)) in
     put-parts w x _ (length (x ++ drop 45 w) - 45) n (omega (arith, length-append x (drop 45 w), n))
-    ∙ ap₂ (λ (u v : List ℕ). u ++ v) (p .ensures) (c .before .before .put-seconds .ensures)
+    ∙ ap₂ (λ (u v : List ℕ). u ++ v) (p .ensures) (c .before .before .put-rest .ensures)
 
 pub put-record-spec : {M : Type 1} → statement M
 put-record-spec =
@@ -55,9 +55,9 @@ put-record-spec =
     slice-relend-prefix-put-first
     slice-aggregate-put-first
     put-first-requires
-    sub-put-seconds
-    part-put-seconds-start
-    part-put-seconds-end
-    put-seconds-requires
+    sub-put-rest
+    part-put-rest-start
+    part-put-rest-end
+    put-rest-requires
     same-length
     returns)

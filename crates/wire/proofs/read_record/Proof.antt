@@ -1,5 +1,9 @@
--- `wire::read_record` meets its contract: both parts decoded, and then read.
-use mathlib.Core.Path.{ap₂, _∙_}
+-- `wire::read_record` meets its contract: the parts decoded, and then read.
+use mathlib.Core.Path.{ap, ap₂, _∙_}
+use mathlib.Core.List.{List}
+use Prim.Native.Nat.{ℕ, _-_}
+use lib.ListN.{length, getD, take, drop}
+use Rattle.codec.specs.Codec.{wordsOf}
 use Rattle.wire.specs.Wire.{recordWith}
 use Rattle.wire.proofs.WireLaw.{read-parts}
 use borrow.Author.Needs.{needs}
@@ -31,6 +35,24 @@ slice-aggregate-decode-2 c = search needs
 decode-requires-2 : tie.Need-decode-requires-2
 decode-requires-2 c κs = search needs
 
+sub-decode-2 : tie.Need-sub-decode-2
+sub-decode-2 c = search needs
+
+part-decode-start-2 : tie.Need-part-decode-start-2
+part-decode-start-2 c = search needs
+
+part-decode-end-2 : tie.Need-part-decode-end-2
+part-decode-end-2 c = search needs
+
+slice-aggregate-decode-3 : tie.Need-slice-aggregate-decode-3
+slice-aggregate-decode-3 c = search needs
+
+decode-requires-3 : tie.Need-decode-requires-3
+decode-requires-3 c κs = search needs
+
+array-read-end : tie.Need-array-read-end
+array-read-end c = search needs
+
 slice-aggregate-record-of : tie.Need-slice-aggregate-record-of
 slice-aggregate-record-of c = search needs
 
@@ -39,8 +61,10 @@ record-of-requires c κs = search needs
 
 returns : tie.Need-returns
 returns c =
-    let b = c .before .before .before .before .before .before .before .before .before .before .args .b .now in
-    c .record-of .ensures ∙ ap₂ recordWith (c .before .before .before .before .before .before .before .decode .ensures) (c .before .before .before .decode2 .ensures) ∙ read-parts b
+    let b = c .before .before .before .before .before .before .before .before .before .before .before .before .before .before .args .b .now in
+    c .record-of .ensures
+    ∙ ap₂ (λ (w s : List ℕ). recordWith w s (getD (c .before .before .before .decode3 .last .1 .0) 0 0)) (c .before .before .before .before .before .before .before .before .before .before .before .decode .ensures) (c .before .before .before .before .before .before .before .decode2 .ensures)
+    ∙ ap (λ (e : List ℕ). recordWith (wordsOf 45 b) (wordsOf 420 (take (length b - 360) (drop 360 b))) (getD e 0 0)) (c .before .before .before .decode3 .ensures) ∙ read-parts b
 
 pub read-record-spec : {M : Type 1} → statement M
 read-record-spec =
@@ -53,6 +77,12 @@ read-record-spec =
     part-decode-end
     slice-aggregate-decode-2
     decode-requires-2
+    sub-decode-2
+    part-decode-start-2
+    part-decode-end-2
+    slice-aggregate-decode-3
+    decode-requires-3
+    array-read-end
     slice-aggregate-record-of
     record-of-requires
     returns)

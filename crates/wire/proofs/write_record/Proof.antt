@@ -1,6 +1,6 @@
--- `wire::write_record` meets its contract: both parts written, and encoded.
+-- `wire::write_record` meets its contract: the parts encoded, one after another.
 use mathlib.Core.Path.{_≡_, ap, _∙_}
-use mathlib.Core.List.{List}
+use mathlib.Core.List.{List, [], _∷_}
 use Prim.Native.Nat.{ℕ}
 use native.Mathlib.Omega.{arith}
 use lib.ListN.{length}
@@ -35,21 +35,31 @@ encode-requires-2 c κs =
     let s = c .before .before .before .before .before .before .before .before .before .before .before .before in
     omega (arith, s .pre, c .before .before .before .before .before .encode .kept .1 .0, seconds-long (s .args .r) _ (s .good .0))
 
+slice-aggregate-encode-3 : tie.Need-slice-aggregate-encode-3
+slice-aggregate-encode-3 c = search needs
+
+encode-requires-3 : tie.Need-encode-requires-3
+encode-requires-3 c κs =
+    let s = c .before .before .before .before .before .before .before .before .before .before .before .before .before .before .before .before .before .before in
+    omega (arith, s .pre, c .before .before .before .before .before .before .before .before .before .before .before .encode .kept .1 .0, c .before .before .before .before .before .encode2 .kept .1 .0)
+
 same-length : tie.Need-same-length
 same-length c = search needs
 
 returns : tie.Need-returns
 returns c =
-    let s = c .before .before .before .before .before .before .before .before .before .before .before .before .before .before .before in
+    let s = c .before .before .before .before .before .before .before .before .before .before .before .before .before .before .before .before .before .before .before .before .before in
     let r = s .args .r in
     let b = s .args .b .now in
-    let p = c .before .before .before .before .before .before .before .before .before .before .before .before .put-first in
+    let p = c .before .before .before .before .before .before .before .before .before .before .before .before .before .before .before .before .before .before .put-first in
     let e = p .ensures in
     let n : length (p .last .1 .0) ≡ 45 = search needs in
-    c .before .before .encode2 .ensures
-    ∙ ap (λ (x : List ℕ). pasted x 360 (bytesFrom (r .seconds))) (c .before .before .before .before .before .before .before .before .encode .ensures)
-    ∙ ap (λ (w : List ℕ). pasted (pasted b 0 (bytesFrom w)) 360 (bytesFrom (r .seconds))) e
-    ∙ write-parts b (firstWords r) (r .seconds) (s .pre) (omega (arith, n, ap length e)) (seconds-long r _ (s .good .0))
+    c .before .before .encode3 .ensures
+    ∙ ap (λ (x : List ℕ). pasted x 3720 (bytesFrom (r .end .0 ∷ []))) (
+    c .before .before .before .before .before .before .before .before .encode2 .ensures
+    ∙ ap (λ (x : List ℕ). pasted x 360 (bytesFrom (r .seconds))) (c .before .before .before .before .before .before .before .before .before .before .before .before .before .before .encode .ensures)
+    ∙ ap (λ (w : List ℕ). pasted (pasted b 0 (bytesFrom w)) 360 (bytesFrom (r .seconds))) e)
+    ∙ write-parts b (firstWords r) (r .seconds) (r .end .0) (s .pre) (omega (arith, n, ap length e)) (seconds-long r _ (s .good .0))
 
 pub write-record-spec : {M : Type 1} → statement M
 write-record-spec =
@@ -61,5 +71,7 @@ write-record-spec =
     encode-requires
     slice-aggregate-encode-2
     encode-requires-2
+    slice-aggregate-encode-3
+    encode-requires-3
     same-length
     returns)

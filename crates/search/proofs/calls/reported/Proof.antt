@@ -16,8 +16,8 @@ stop-of-requires : tie.Need-stop-of-requires
 stop-of-requires c κs = search needs
 
 -- src/calls.rt:60:21
-sub-t8 : tie.Need-sub-t8
-sub-t8 c = search needs
+sub-points : tie.Need-sub-points
+sub-points c = search needs
 
 -- src/calls.rt:50:1
 returns : tie.Need-returns
@@ -30,4 +30,4 @@ returns c =
     }) (c .stop-of .ensures)
 
 pub reported-spec : {M : Type 1} → statement M
-reported-spec = tie.close (tie.spec stop-of-requires sub-t8 returns)
+reported-spec = tie.close (tie.spec stop-of-requires sub-points returns)

@@ -1,22 +1,23 @@
--- `wire::put_seconds` meets its contract: after i turns the first i words are written.
+-- `wire::put_rest` meets its contract: after i turns the first i words are written, and at last the end.
 use mathlib.Core.Path.{_≡_, refl, sym, ap, _∙_}
 use mathlib.Core.List.{List, [], _∷_, _++_}
 use Prim.Native.Nat.{ℕ, _≤_, _-_, _+_}
 use native.Mathlib.Numerals.{add-one}
 use native.Mathlib.Omega.{arith}
 use lib.ListN.{length, take, getD, set, length-set}
-use lib.Seq.{take-all, take-suc, take-suc-set}
+use lib.Seq.{take-suc, take-suc-set}
+use Rattle.wire.proofs.WireLaw.{put-end}
 use borrow.Author.Needs.{needs}
-use Rattle.wire.proofs.put_seconds.Statement.{statement}
-use Rattle.wire.proofs.put_seconds.Tie as tie
-use Rattle.wire.proofs.put_seconds.Reads as reads
-use Rattle.wire.proofs.put_seconds.Lts as lts
+use Rattle.wire.proofs.put_rest.Statement.{statement}
+use Rattle.wire.proofs.put_rest.Tie as tie
+use Rattle.wire.proofs.put_rest.Reads as reads
+use Rattle.wire.proofs.put_rest.Lts as lts
 
 abbrev Inv-loop : tie.InvT-loop
-Inv-loop w₀ s i₀ w i = (i ≤ 420) × (length s ≡ 420) × (length w ≡ 420) × (take i w ≡ take i s)
+Inv-loop end w₀ s i₀ w i = (i ≤ 420) × (length s ≡ 420) × (length w ≡ 421) × (take i w ≡ take i s)
 
 abbrev μ-loop : tie.MeasureT-loop
-μ-loop w₀ s i₀ w i = 420 - i
+μ-loop end w₀ s i₀ w i = 420 - i
 
 loop-holds : tie.Need-loop-holds Inv-loop μ-loop
 loop-holds c = (omega arith, c .good .0 .1 .0 .1, c .pre, refl)
@@ -50,17 +51,20 @@ loop-again c =
         ap (λ (k : ℕ). take k (set w i (getD s i 0))) (add-one i) ∙ take-suc-set w i (getD s i 0) (omega (arith, h))
         ∙ ap (λ (m : List ℕ). m ++ (getD s i 0 ∷ [])) e ∙ sym (take-suc s i 0 (omega (arith, g))) ∙ ap (λ (k : ℕ). take k s) (sym (add-one i))
 
+slice-write-w-2 : tie.Need-slice-write-w-2 Inv-loop μ-loop
+slice-write-w-2 c = search needs
+
 same-length : tie.Need-same-length Inv-loop μ-loop
 same-length c = search needs
 
 returns : tie.Need-returns Inv-loop μ-loop
 returns c =
     let l = c .before .loop in
-    let s = c .before .before .args .t1 in
-    sym (take-all (l .i) (l .w) (omega arith)) ∙ l .inv .3 ∙ take-all (l .i) s (omega arith)
+    let a = c .before .before .args in
+    put-end (l .w) (a .t1) (l .i) (a .end) (omega arith) (l .inv .2) (l .inv .1) (l .inv .3)
 
-pub put-seconds-spec : {M : Type 1} → statement M
-put-seconds-spec =
+pub put-rest-spec : {M : Type 1} → statement M
+put-rest-spec =
     tie.close
     (tie.spec
     Inv-loop
@@ -73,5 +77,6 @@ put-seconds-spec =
     add-i
     loop-less
     loop-again
+    slice-write-w-2
     same-length
     returns)
