@@ -55,7 +55,7 @@ slice-write-w-2 : tie.Need-slice-write-w-2 Inv-loop μ-loop
 slice-write-w-2 c = search needs
 
 same-length : tie.Need-same-length Inv-loop μ-loop
-same-length c = search needs
+same-length c = let l = c .before .loop in length-set (l .w) 420 (c .before .before .args .end) ∙ l .inv .2 ∙ sym (c .before .before .pre)
 
 returns : tie.Need-returns Inv-loop μ-loop
 returns c =

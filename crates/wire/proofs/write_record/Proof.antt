@@ -40,24 +40,24 @@ slice-aggregate-encode-3 c = search needs
 
 encode-requires-3 : tie.Need-encode-requires-3
 encode-requires-3 c κs =
-    let s = c .before .before .before .before .before .before .before .before .before .before .before .before .before .before .before .before .before .before in
-    omega (arith, s .pre, c .before .before .before .before .before .before .before .before .before .before .before .encode .kept .1 .0, c .before .before .before .before .before .encode2 .kept .1 .0)
+    let s = c .before .before .before .before .before .before .before .before .before .before .before .before .before .before .before .before .before in
+    omega (arith, s .pre, c .before .before .before .before .before .before .before .before .before .before .encode .kept .1 .0, c .before .before .before .before .encode2 .kept .1 .0)
 
 same-length : tie.Need-same-length
 same-length c = search needs
 
 returns : tie.Need-returns
 returns c =
-    let s = c .before .before .before .before .before .before .before .before .before .before .before .before .before .before .before .before .before .before .before .before .before in
+    let s = c .before .before .before .before .before .before .before .before .before .before .before .before .before .before .before .before .before .before .before .before in
     let r = s .args .r in
     let b = s .args .b .now in
-    let p = c .before .before .before .before .before .before .before .before .before .before .before .before .before .before .before .before .before .before .put-first in
+    let p = c .before .before .before .before .before .before .before .before .before .before .before .before .before .before .before .before .before .put-first in
     let e = p .ensures in
     let n : length (p .last .1 .0) ≡ 45 = search needs in
     c .before .before .encode3 .ensures
     ∙ ap (λ (x : List ℕ). pasted x 3720 (bytesFrom (r .end .0 ∷ []))) (
-    c .before .before .before .before .before .before .before .before .encode2 .ensures
-    ∙ ap (λ (x : List ℕ). pasted x 360 (bytesFrom (r .seconds))) (c .before .before .before .before .before .before .before .before .before .before .before .before .before .before .encode .ensures)
+    c .before .before .before .before .before .before .before .encode2 .ensures
+    ∙ ap (λ (x : List ℕ). pasted x 360 (bytesFrom (r .seconds))) (c .before .before .before .before .before .before .before .before .before .before .before .before .before .encode .ensures)
     ∙ ap (λ (w : List ℕ). pasted (pasted b 0 (bytesFrom w)) 360 (bytesFrom (r .seconds))) e)
     ∙ write-parts b (firstWords r) (r .seconds) (r .end .0) (s .pre) (omega (arith, n, ap length e)) (seconds-long r _ (s .good .0))
 
