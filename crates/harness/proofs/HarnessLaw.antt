@@ -142,24 +142,24 @@ module _ (g : Given) (answers : List ℕ → Request → List ℕ) (lent : Lent 
         ∙ ap (λ (v : Verdict). after v (bytesFrom l) (pasted (bytesFrom l) 0 (bytesFrom (foundIn (upTo t (openedAt t p)) (openedAt t p .place .0) b (length l))))) (verdict-opened t p b l (lent .checked) (lent .far) h ∙ e)
         ∙ ap₂ (λ (e x : ℕ). pasted (bytesFrom l) 0 (bytesFrom (foundIn (endingAt t e) x b (length l)))) (end-opened t p) (place-opened t p)
 
-    near : p + k ≤ g .end
-    near = subst (λ (x : ℕ). p + k ≤ x) (end-is t) (points-end T b (length l) p (subst (λ (x : ℕ). p ≤ x) (sym (end-is t)) h))
+    inside : p + k ≤ g .end
+    inside = subst (λ (x : ℕ). p + k ≤ x) (end-is t) (points-end T b (length l) p (subst (λ (x : ℕ). p ≤ x) (sym (end-is t)) h))
 
     -- the words of its answer
-    abbrev z : ℕ
-    z = recordIn (at p) .end .0
+    abbrev last : ℕ
+    last = recordIn (at p) .end .0
 
-    place-is : stopPlace z (w .stop) ≡ p + k
+    place-is : stopPlace last (w .stop) ≡ p + k
     place-is = ap (λ (x : ℕ). stopPlace x (w .stop)) (end-back p h ∙ sym (end-is t)) ∙ report-place T b (length l) p
 
-    values-are : wordsIn (bytesFrom (answerValues z (ranOf t p b (length l) .answer))) ≡ answerValues z (Ran w)
+    values-are : wordsIn (bytesFrom (answerValues last (ranOf t p b (length l) .answer))) ≡ answerValues last (Ran w)
     unfolding reportOf
     values-are =
-        let s = place-small (p + k) (omega (arith, near, lent .far)) in
-        values-back z w (omega (arith, place-is, s)) (omega (arith, s)) (omega (arith, s, cost-most T 3 (cost-three t) p k)) (omega (arith, s, zeros-length T p k))
+        let s = place-small (p + k) (omega (arith, inside, lent .far)) in
+        values-back last w (omega (arith, place-is, s)) (omega (arith, s)) (omega (arith, s, cost-most T 3 (cost-three t) p k)) (omega (arith, s, zeros-length T p k))
 
-    told-is : toldBy 0 (bytesFrom (answerValues z (ranOf t p b (length l) .answer))) ≡ some w
-    told-is = ap (λ (x : List ℕ). some (reportSaid x)) values-are ∙ ap some (answer-back z w)
+    told-is : toldBy 0 (bytesFrom (answerValues last (ranOf t p b (length l) .answer))) ≡ some w
+    told-is = ap (λ (x : List ℕ). some (reportSaid x)) values-are ∙ ap some (answer-back last w)
 
     list-is : wordsIn (pasted (bytesFrom l) 0 (bytesFrom (foundIn t p b (length l)))) ≡ listAfter T b p l
     unfolding listAfter
@@ -184,13 +184,13 @@ module _ (g : Given) (answers : List ℕ → Request → List ℕ) (lent : Lent 
     -- the answer's bytes, by the verdict and the outcome
     abbrev AnswerFrom : Verdict → Outcome → Type 0
     AnswerFrom v o =
-        let new = after v answer (bytesFrom (answerValues z (o .answer))) in
+        let new = after v answer (bytesFrom (answerValues last (o .answer))) in
         OneAnswer p answer new (toldBy (codeOf v) new)
 
     answer-ran : AnswerFrom verdict.Done (ranOf t p b (length l))
     unfolding reportOf
     answer-ran =
-        subst (OneAnswer p answer (bytesFrom (answerValues z (ranOf t p b (length l) .answer)))) (sym told-is)
+        subst (OneAnswer p answer (bytesFrom (answerValues last (ranOf t p b (length l) .answer)))) (sym told-is)
         (values-are ∙ ap (λ (x : ℕ). stopNumber (w .stop) ∷ x ∷ w .points ∷ w .additions ∷ w .found ∷ []) place-is)
 
     pub answer-by : (x y : Bool) → asked b l ≡ refuse x refusal.Budget (refuse y refusal.List verdict.Done)

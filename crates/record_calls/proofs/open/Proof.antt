@@ -22,7 +22,7 @@ same-length c = search needs
 
 returns : tie.Need-returns
 returns c =
-    let a = c .before .before .before .before .before .before .args in
+    let a = c .before .before .before .before .before .before .before .args in
     let k = c .before .before .open-range .ensures in
     let e = call-ending (tableTold (a .n) (a .m) (a .table .now)) (a .place) (a .«record» .now) _ (c .before .before .before .before .power .ensures .0) in
     (k .0 ∙ ap codeOf (e .0), k .1 ∙ e .1)
