@@ -1,0 +1,3 @@
+pub mod Cuts
+pub mod Order
+pub mod Ranges
