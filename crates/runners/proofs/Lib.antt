@@ -1,2 +1,3 @@
 pub mod CutLaw
 pub mod OrderLaw
+pub mod RangeLaw

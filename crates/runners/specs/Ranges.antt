@@ -58,3 +58,18 @@ pub record OneWalk (T : Trail) {S : Type 0} (k : ℕ) (rs : ℕ → List (Reply 
   pub points : sum k (λ i. totalsOf (rs i) .points) ≡ T .end
   pub additions : sum k (λ i. totalsOf (rs i) .additions) ≡ costIn T 0 (T .end)
   pub found : sum k (λ i. totalsOf (rs i) .found) ≡ length (placesIn T 0 (T .end))
+
+-- the same of two ranges, rs the answers on the first and us those on the second
+pub record TwoRanges (T : Trail) {S : Type 0} (rs us : List (Reply S)) : Type 0 where
+  pub order : totalsOf rs .listed ++ totalsOf us .listed ≡ map (T .entry) (placesIn T 0 (T .end))
+  pub all : (x : ℕ) → Holds x (totalsOf rs .listed ++ totalsOf us .listed) ↔ ((a : ℕ) × (a < T .end) × (T .zeroAt a ≡ true) × (T .entry a ≡ x))
+  pub points : totalsOf rs .points + totalsOf us .points ≡ T .end
+  pub additions : totalsOf rs .additions + totalsOf us .additions ≡ costIn T 0 (T .end)
+  pub found : totalsOf rs .found + totalsOf us .found ≡ length (placesIn T 0 (T .end))
+
+-- ---- k ranges and j ranges have the same totals: one range is one runner's whole run
+pub record SameTotals {S R : Type 0} (k j : ℕ) (rs : ℕ → List (Reply S)) (us : ℕ → List (Reply R)) : Type 0 where
+  pub listed : joins k (λ i. totalsOf (rs i) .listed) ≡ joins j (λ i. totalsOf (us i) .listed)
+  pub points : sum k (λ i. totalsOf (rs i) .points) ≡ sum j (λ i. totalsOf (us i) .points)
+  pub additions : sum k (λ i. totalsOf (rs i) .additions) ≡ sum j (λ i. totalsOf (us i) .additions)
+  pub found : sum k (λ i. totalsOf (rs i) .found) ≡ sum j (λ i. totalsOf (us i) .found)
