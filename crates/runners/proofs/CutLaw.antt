@@ -159,11 +159,11 @@ module _ (x n i : ℕ) where
   pub cut-accepted : (cutVerdict x n i ≡ verdict.Done) ↔ ((x ≤ n) × (0 < cutAt x n (suc i) - cutAt x n i))
   cut-accepted = (
     λ e.
-    let v = refuse (eqb (cutAt x n (suc i) - cutAt x n i) 0) refusal.List verdict.Done in
-    let a = ltb-false n x (done-test (ltb n x) refusal.Length v e) in
-    let b = eqb-false (cutAt x n (suc i) - cutAt x n i) 0
+        let v = refuse (eqb (cutAt x n (suc i) - cutAt x n i) 0) refusal.List verdict.Done in
+        let a = ltb-false n x (done-test (ltb n x) refusal.Length v e) in
+        let b = eqb-false (cutAt x n (suc i) - cutAt x n i) 0
         (done-test (eqb (cutAt x n (suc i) - cutAt x n i) 0) refusal.List verdict.Done (done-next (ltb n x) refusal.Length v e)) in
-    (a, above (cutAt x n (suc i) - cutAt x n i) b),
+        (a, above (cutAt x n (suc i) - cutAt x n i) b),
     λ p. rw (le-ltb n x (p .0), ne-eqb (cutAt x n (suc i) - cutAt x n i) 0 (λ z. below (cutAt x n (suc i) - cutAt x n i) (p .1) z)),
   )
     where

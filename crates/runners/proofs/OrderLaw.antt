@@ -11,7 +11,7 @@ use borrow.Author.Tests.{eqb-true, eqb-false, eq-eqb, ne-eqb}
 use Rattle.refusals.specs.Choice.{pick}
 use Rattle.walks.specs.Runs.{Request, Reply, Engine, sumsOf}
 use Rattle.runners.specs.Cuts.{Cuts, cutAt, partIn, withPart}
-use Rattle.runners.specs.Order.{Call, asked, Host, replyTo, afterCall, hostAfter, repliesTo, callsOf, requestsOf, repliesOf, lastList, aloneOf, AsAlone, Keeps}
+use Rattle.runners.specs.Order.{Call, askedWith, Host, replyTo, afterCall, hostAfter, repliesTo, callsOf, requestsOf, repliesOf, lastList, aloneOf, AsAlone, Keeps}
 use Rattle.runners.proofs.CutLaw.{part-length, with-length, with-own, with-other, with-outside, cut-cuts, with-one, with-two}
 
 module _ {S : Type 0} (E : Engine S) (keeps : Keeps E) (c : ℕ → ℕ) (k n : ℕ) (cuts : Cuts c k n) where
@@ -20,7 +20,7 @@ module _ {S : Type 0} (E : Engine S) (keeps : Keeps E) (c : ℕ → ℕ) (k n : 
     reply-long : length (replyTo E c h d .list) ≡ c (suc (d .runner)) - c (d .runner)
     reply-long =
         let l = partIn c (d .runner) (h .buffer) in
-        keeps (h .states (d .runner)) (asked d l) ∙ d .keeps l ∙ part-length c k n cuts (h .buffer) long (d .runner)
+        keeps (h .states (d .runner)) (askedWith d l) ∙ d .keeps l ∙ part-length c k n cuts (h .buffer) long (d .runner)
 
     pub call-length : length (afterCall E c h d .buffer) ≡ length (h .buffer)
     call-length = with-length c k n cuts (h .buffer) long (d .runner) (replyTo E c h d .list) reply-long
@@ -75,9 +75,9 @@ module _ {S : Type 0} (E : Engine S) (keeps : Keeps E) (c : ℕ → ℕ) (k n : 
 
     -- a call of runner i is the call that it makes alone
     reply-alone : (h : Host S) (d : Call) (s : S) (l : List ℕ) → d .runner ≡ i → h .states i ≡ s → partIn c i (h .buffer) ≡ l
-        → replyTo E c h d ≡ E s (asked d l)
+        → replyTo E c h d ≡ E s (askedWith d l)
     reply-alone h d s l e f g =
-        ap (λ (j : ℕ). E (h .states j) (asked d (partIn c j (h .buffer)))) e ∙ ap₂ (λ (s : S) (l : List ℕ). E s (asked d l)) f g
+        ap (λ (j : ℕ). E (h .states j) (askedWith d (partIn c j (h .buffer)))) e ∙ ap₂ (λ (s : S) (l : List ℕ). E s (askedWith d l)) f g
 
     from : (h : Host S) (ds : List Call) (s : S) (l : List ℕ) → length (h .buffer) ≡ n → h .states i ≡ s → partIn c i (h .buffer) ≡ l → From h ds s l
     unfolding repliesTo hostAfter callsOf requestsOf repliesOf lastList sumsOf
@@ -89,11 +89,11 @@ module _ {S : Type 0} (E : Engine S) (keeps : Keeps E) (c : ℕ → ℕ) (k n : 
             → From h (d ∷ ds) s l
         go true e rest =
             let o = eqb-true (d .runner) i e in
-            let r = E s (asked d l) in
+            let r = E s (askedWith d l) in
             let q : replyTo E c h d ≡ r = reply-alone h d s l o f g in
             let u = rest (r .state) (r .list)
-                (ap (λ (j : ℕ). afterCall E c h d .states j) (sym o) ∙ own-state h d long ∙ ap (λ (r : Reply S). r .state) q)
-                (ap (λ (j : ℕ). partIn c j (afterCall E c h d .buffer)) (sym o) ∙ own-part h d long ∙ ap (λ (r : Reply S). r .list) q) in
+            (ap (λ (j : ℕ). afterCall E c h d .states j) (sym o) ∙ own-state h d long ∙ ap (λ (r : Reply S). r .state) q)
+            (ap (λ (j : ℕ). partIn c j (afterCall E c h d .buffer)) (sym o) ∙ own-part h d long ∙ ap (λ (r : Reply S). r .list) q) in
             let z = own-calls d ds e in
             record {
               replies = own-replies h d ds e ∙ ap₂ (λ (r : Reply S) (rs : List (Reply S)). r ∷ rs) q (u .replies) ∙ sym (ap (λ (ds : List Call). repliesOf E s (requestsOf E s l ds)) z);

@@ -88,7 +88,7 @@ module _ (T : Trail) {S : Type 0} (at : ℕ → ℕ → S) (E : Engine S) (e : �
         let a = sums-are (until T e) (at e) E serves p qs h in
         let k : sumsOf E (at e p) qs .points ≡ e - p = omega (arith, range-points) in
         let l : totalsOf (repliesOf E (at e p) qs) .listed ≡ zerosIn T p (e - p) =
-            u .listed ∙ a .listed ∙ ap (zerosIn (until T e) p) k ∙ zeros-until T e p (e - p) in
+        u .listed ∙ a .listed ∙ ap (zerosIn (until T e) p) k ∙ zeros-until T e p (e - p) in
         record {
           points = u .points ∙ k;
           additions = u .additions ∙ a .additions ∙ ap (costIn (until T e) p) k ∙ cost-until T e p (e - p);
@@ -133,7 +133,7 @@ pub runner-range : (T : Trail) {S : Type 0} (at : ℕ → ℕ → S) (E : Engine
 runner-range T at E e serves keeps c m h parts i p l f ds ended =
     let alone : List Request = requestsOf E (at e p) (partIn c i (h .buffer)) (callsOf i ds) in
     let x : repliesTo E c i h ds ≡ repliesOf E (at e p) alone =
-        as-alone E keeps c m (length (h .buffer)) parts i h ds refl .replies ∙ ap (λ s. repliesOf E s (requestsOf E s (partIn c i (h .buffer)) (callsOf i ds))) f in
+    as-alone E keeps c m (length (h .buffer)) parts i h ds refl .replies ∙ ap (λ s. repliesOf E s (requestsOf E s (partIn c i (h .buffer)) (callsOf i ds))) f in
     whole-range T at E e serves p l alone (subst (λ rs. SaysEnded (totalsOf rs .told)) x ended)
 
 -- ---- ranges that follow each other
@@ -168,7 +168,7 @@ module _ (T : Trail) {S : Type 0} (e : ℕ → ℕ) (k : ℕ) (cuts : Cuts e k (
       let d = e (suc j) - e j in
       let y : e j + d ≡ e (suc j) = omega (arith, cuts .rise j) in
       let x : zerosIn T 0 (e j) ++ zerosIn T (e j) d ≡ zerosIn T 0 (e (suc j)) =
-          ap (λ (i : ℕ). zerosIn T 0 (e j) ++ zerosIn T i d) (sym (zero-add (e j))) ∙ sym (zeros-add T 0 (e j) d) ∙ ap (zerosIn T 0) y in
+      ap (λ (i : ℕ). zerosIn T 0 (e j) ++ zerosIn T i d) (sym (zero-add (e j))) ∙ sym (zeros-add T 0 (e j) d) ∙ ap (zerosIn T 0) y in
       record {
         points = ap₂ (λ (a b : ℕ). a + b) (u .points) (v .points) ∙ y;
         additions = ap₂ (λ (a b : ℕ). a + b) (u .additions) (v .additions)
@@ -207,7 +207,7 @@ module _ (T : Trail) {S : Type 0} (at : ℕ → ℕ → S) (E : Engine S) (serve
   ranges-in-any-order keeps c m h parts who states ds ended =
       one-walk T e k cuts (λ i. repliesTo E c (who i) h ds)
       (λ i l. counted i (h .states (who i)) (states i l) (aloneOf E c (who i) h ds) (repliesTo E c (who i) h ds)
-          (as-alone E keeps c m (length (h .buffer)) parts (who i) h ds refl .replies) (ended i l))
+      (as-alone E keeps c m (length (h .buffer)) parts (who i) h ds refl .replies) (ended i l))
     where
       counted : (i : ℕ) (s : S) → s ≡ at (e (suc i)) (e i) → (qs : List Request) (rs : List (Reply S)) → rs ≡ repliesOf E s qs → SaysEnded (totalsOf rs .told)
           → Counted T (e i) (e (suc i) - e i) rs
@@ -215,7 +215,7 @@ module _ (T : Trail) {S : Type 0} (at : ℕ → ℕ → S) (E : Engine S) (serve
           let x : rs ≡ repliesOf E (at (e (suc i)) (e i)) qs = g ∙ ap (λ (s : S). repliesOf E s qs) f in
           subst (Counted T (e i) (e (suc i) - e i)) (sym x)
           (range-counted T at E (e (suc i)) (serves (e (suc i)) (cuts-within e k (T .end) cuts (suc i))) (e i) (cuts .rise i) qs
-              (subst (λ (rs : List (Reply S)). SaysEnded (totalsOf rs .told)) x ended))
+          (subst (λ (rs : List (Reply S)). SaysEnded (totalsOf rs .told)) x ended))
 
 -- ---- one whole run of one runner is such, and all such are the same
 pub one-run : (T : Trail) {S : Type 0} (at : ℕ → S) (E : Engine S) (qs : List Request) → WholeRun T at E qs → OneWalk T 1 (λ i. repliesOf E (at 0) qs)
@@ -231,19 +231,18 @@ one-run T at E qs w =
       found = zero-add _ ∙ found-is T at E 0 (at 0) qs (w .each) ∙ ap length l ∙ length-map (placesIn T 0 (T .end)) (T .entry);
     }
 
-module _ (T : Trail) {S : Type 0} (k : ℕ) (rs : ℕ → List (Reply S)) (w : OneWalk T k rs) where
-  pub same-totals : {R : Type 0} (j : ℕ) (us : ℕ → List (Reply R)) → OneWalk T j us → SameTotals k j rs us
-  same-totals j us v =
-      record { listed = w .order ∙ sym (v .order); points = w .points ∙ sym (v .points); additions = w .additions ∙ sym (v .additions); found = w .found ∙ sym (v .found) }
+pub same-totals : (T : Trail) {S R : Type 0} (k j : ℕ) (rs : ℕ → List (Reply S)) (us : ℕ → List (Reply R)) → OneWalk T k rs → OneWalk T j us → SameTotals k j rs us
+same-totals T k j rs us w v =
+    record { listed = w .order ∙ sym (v .order); points = w .points ∙ sym (v .points); additions = w .additions ∙ sym (v .additions); found = w .found ∙ sym (v .found) }
 
-  -- no entry twice, where different places have different entries
-  pub walk-once : Distinct T → Once (joins k (λ i. totalsOf (rs i) .listed))
-  walk-once d = rw (w .order, ← zeros-map T 0 (T .end)) (all-once T d)
+-- no entry twice, where different places have different entries
+pub order-once : (T : Trail) (l : List ℕ) → l ≡ map (T .entry) (placesIn T 0 (T .end)) → Distinct T → Once l
+order-once T l e d = rw (e, ← zeros-map T 0 (T .end)) (all-once T d)
 
 -- ---- two ranges
-pub two-ranges : (T : Trail) {S : Type 0} (rs : ℕ → List (Reply S)) → OneWalk T 2 rs → TwoRanges T (rs 0) (rs 1)
+pub two-of-them : (T : Trail) {S : Type 0} (rs : ℕ → List (Reply S)) → OneWalk T 2 rs → TwoRanges T (rs 0) (rs 1)
 unfolding joins sum
-two-ranges T rs w =
+two-of-them T rs w =
     record { order = w .order; all = w .all; points = omega (arith, w .points); additions = omega (arith, w .additions); found = omega (arith, w .found) }
 
 -- the first range is that of runner a, the second that of runner b
@@ -258,9 +257,9 @@ pub two-runners : (T : Trail) {S : Type 0} (at : ℕ → ℕ → S) (E : Engine 
     → TwoRanges T (repliesTo E (cutAt x (length (h .buffer))) a h ds) (repliesTo E (cutAt x (length (h .buffer))) b h ds)
 unfolding either
 two-runners T {S} at E serves keeps m hm h x hx a b fa fb ds ea eb =
-    two-ranges T answers
+    two-of-them T answers
     (ranges-in-any-order T at E serves (cutAt m (T .end)) 2 (cut-cuts m (T .end) hm) keeps (cutAt x (length (h .buffer))) 2 h (cut-cuts x (length (h .buffer)) hx) (either a b)
-        states ds ended)
+    states ds ended)
   where
     answers : ℕ → List (Reply S)
     answers i = repliesTo E (cutAt x (length (h .buffer))) (either a b i) h ds

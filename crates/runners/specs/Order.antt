@@ -18,8 +18,8 @@ pub record Call : Type 0 where
   pub keeps : (l : List ℕ) → length (lent l) ≡ length l
 
 -- what a call asks for, with the list l as its runner's part
-abbrev pub asked : Call → List ℕ → Request
-asked d l = record { budget = d .budget; list = d .lent l }
+abbrev pub askedWith : Call → List ℕ → Request
+askedWith d l = record { budget = d .budget; list = d .lent l }
 
 -- what the host has: the state of each runner, and the one buffer
 pub record Host (S : Type 0) : Type 0 where
@@ -28,7 +28,7 @@ pub record Host (S : Type 0) : Type 0 where
 
 -- what a call gives back: it is begun with its runner's state and its runner's part of the buffer
 abbrev pub replyTo : {S : Type 0} → Engine S → (ℕ → ℕ) → Host S → Call → Reply S
-replyTo E c h d = E (h .states (d .runner)) (asked d (partIn c (d .runner) (h .buffer)))
+replyTo E c h d = E (h .states (d .runner)) (askedWith d (partIn c (d .runner) (h .buffer)))
 
 -- the host after it: its runner has the state, and its runner's part is the list, that the call gave back
 abbrev pub afterCall : {S : Type 0} → Engine S → (ℕ → ℕ) → Host S → Call → Host S
@@ -57,7 +57,7 @@ callsOf i (d ∷ ds) = pick (eqb (d .runner) i) (d ∷ callsOf i ds) (callsOf i 
 -- what they ask for, each with the list as the one before gave it back
 unfoldable pub requestsOf : {S : Type 0} → Engine S → S → List ℕ → List Call → List Request
 requestsOf E s l [] = []
-requestsOf E s l (d ∷ ds) = let r = E s (asked d l) in asked d l ∷ requestsOf E (r .state) (r .list) ds
+requestsOf E s l (d ∷ ds) = let r = E s (askedWith d l) in askedWith d l ∷ requestsOf E (r .state) (r .list) ds
 
 -- what the calls of a run give back (walks/specs/Runs.sumsOf has what they give together)
 unfoldable pub repliesOf : {S : Type 0} → Engine S → S → List Request → List (Reply S)
@@ -79,6 +79,6 @@ pub record AsAlone {S : Type 0} (E : Engine S) (c : ℕ → ℕ) (i : ℕ) (h : 
   pub state : hostAfter E c h ds .states i ≡ sumsOf E (h .states i) (aloneOf E c i h ds) .last
   pub part : partIn c i (hostAfter E c h ds .buffer) ≡ lastList (partIn c i (h .buffer)) (repliesTo E c i h ds)
 
--- ---- what is asked of an engine: a call gives back as long a list as it was lent
+-- ---- what is askedWith of an engine: a call gives back as long a list as it was lent
 abbrev pub Keeps : {S : Type 0} → Engine S → Type 0
 Keeps {S} E = (s : S) (q : Request) → length (E s q .list) ≡ length (q .list)
