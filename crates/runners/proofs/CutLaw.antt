@@ -1,7 +1,7 @@
 -- Parts of a list that was cut: a part that was written over is what was written, and every other entry is as it was.
 use mathlib.Core.Path.{_≡_, refl, sym, ap, ap₂, _∙_}
 use mathlib.Core.Logic.{_⊎_, ⊎-elim, by-cases, _↔_}
-use mathlib.Core.List.{List, [], _∷_, _++_, append-assoc, append-nil}
+use mathlib.Core.List.{List, _++_, append-assoc, append-nil}
 use Prim.Native.Nat.{ℕ, zero, suc, _+_, _-_, _≤_, _<_}
 use native.Mathlib.Nat.{add-zero}
 use native.Mathlib.Decide.{decLt}
@@ -11,7 +11,6 @@ use lib.ListN.{length, getD, take, drop, length-append, length-drop, take-append
 use lib.Seq.{slice, length-take-le, take-all, take-length, drop-length, take-at, drop-at, take-append-le, take-append-add, drop-append-add, getD-append-add, getD-take, getD-drop, take-take, length-slice}
 use borrow.Author.Tests.{lt-ltb, le-ltb, ltb-false, eq-eqb, ne-eqb, eqb-false}
 use Rattle.refusals.specs.declared.Refusal.the-variants as refusal
-use Rattle.refusals.specs.declared.Verdict.{Verdict}
 use Rattle.refusals.specs.declared.Verdict.the-variants as verdict
 use Rattle.refusals.specs.Refusal.{refuse}
 use Rattle.refusals.proofs.RefusalLaw.{done-test, done-next}
@@ -74,17 +73,23 @@ module _ (f t : ℕ) (l m : List ℕ) (h : f ≤ t) (k : t ≤ length l) (e : le
           ap (λ (u : List ℕ). getD u x 0) over-is ∙ ap (λ (i : ℕ). getD (front ++ drop t l) i 0) z ∙ getD-append-add front (drop t l) (x - t) 0
           ∙ getD-drop t l (x - t) 0 ∙ ap (λ (i : ℕ). getD l i 0) y
 
--- ---- cuts never fall
-rises-by : (c : ℕ → ℕ) → ((i : ℕ) → c i ≤ c (suc i)) → (i d : ℕ) → c i ≤ c (i + d)
-rises-by c r i zero = omega (arith, ap c (add-zero i))
-rises-by c r i (suc d) = let e : i + suc d ≡ suc (i + d) = omega arith in omega (arith, rises-by c r i d, r (i + d), ap c e)
+-- ---- lists of lists that are the same, joined
+pub joins-ext : (k : ℕ) (f g : ℕ → List ℕ) → ((i : ℕ) → f i ≡ g i) → joins k f ≡ joins k g
+unfolding joins
+joins-ext zero f g e = refl
+joins-ext (suc k) f g e = ap₂ (λ (x y : List ℕ). x ++ y) (joins-ext k f g e) (e k)
 
 module _ (c : ℕ → ℕ) (k n : ℕ) (cuts : Cuts c k n) where
+  -- ---- cuts never fall
+  rises-by : (i d : ℕ) → c i ≤ c (i + d)
+  rises-by i zero = omega (arith, ap c (add-zero i))
+  rises-by i (suc d) = let e : i + suc d ≡ suc (i + d) = omega arith in omega (arith, rises-by i d, cuts .rise (i + d), ap c e)
+
   pub cuts-rise : (i j : ℕ) → i ≤ j → c i ≤ c j
-  cuts-rise i j h = let e : i + (j - i) ≡ j = omega arith in omega (arith, rises-by c (cuts .rise) i (j - i), ap c e)
+  cuts-rise i j h = let e : i + (j - i) ≡ j = omega arith in omega (arith, rises-by i (j - i), ap c e)
 
   pub cuts-within : (i : ℕ) → c i ≤ n
-  cuts-within i = omega (arith, rises-by c (cuts .rise) i k, cuts .last (i + k) (omega arith))
+  cuts-within i = omega (arith, rises-by i k, cuts .last (i + k) (omega arith))
 
   module _ (l : List ℕ) (long : length l ≡ n) where
     within : (i : ℕ) → c i ≤ length l

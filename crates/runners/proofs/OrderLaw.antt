@@ -9,10 +9,10 @@ use lib.Dec.{eqb}
 use lib.ListN.{length, getD, take, drop}
 use borrow.Author.Tests.{eqb-true, eqb-false, eq-eqb, ne-eqb}
 use Rattle.refusals.specs.Choice.{pick}
-use Rattle.walks.specs.Runs.{Request, Reply, Engine, sumsOf}
-use Rattle.runners.specs.Cuts.{Cuts, cutAt, partIn, withPart}
+use Rattle.walks.specs.Runs.{Reply, Engine, sumsOf}
+use Rattle.runners.specs.Cuts.{Cuts, cutAt, partIn, withPart, joins}
 use Rattle.runners.specs.Order.{Call, askedWith, Host, replyTo, afterCall, hostAfter, repliesTo, callsOf, requestsOf, repliesOf, lastList, aloneOf, AsAlone, Keeps}
-use Rattle.runners.proofs.CutLaw.{part-length, with-length, with-own, with-other, with-outside, cut-cuts, with-one, with-two}
+use Rattle.runners.proofs.CutLaw.{joins-ext, parts-all, part-length, with-length, with-own, with-other, with-outside, with-one, with-two}
 
 module _ {S : Type 0} (E : Engine S) (keeps : Keeps E) (c : ℕ → ℕ) (k n : ℕ) (cuts : Cuts c k n) where
   -- ---- one call
@@ -114,7 +114,19 @@ module _ {S : Type 0} (E : Engine S) (keeps : Keeps E) (c : ℕ → ℕ) (k n : 
     pub as-alone : (h : Host S) (ds : List Call) → length (h .buffer) ≡ n → AsAlone E c i h ds
     as-alone h ds long =
         let u = from h ds (h .states i) (partIn c i (h .buffer)) long refl refl in
-        record { replies = u .replies; state = u .state; part = u .part ∙ ap (lastList (partIn c i (h .buffer))) (sym (u .replies)) }
+        record { replies = u .replies; state = u .state; part = u .part }
+
+  -- the whole buffer after, part by part
+  calls-length : (h : Host S) (ds : List Call) → length (h .buffer) ≡ n → length (hostAfter E c h ds .buffer) ≡ n
+  unfolding hostAfter
+  calls-length h [] long = long
+  calls-length h (d ∷ ds) long = calls-length (afterCall E c h d) ds (call-length h d long ∙ long)
+
+  pub buffer-is : (h : Host S) (ds : List Call) → length (h .buffer) ≡ n
+      → hostAfter E c h ds .buffer ≡ joins k (λ i. lastList (partIn c i (h .buffer)) (repliesOf E (h .states i) (aloneOf E c i h ds)))
+  buffer-is h ds long =
+      let l = hostAfter E c h ds .buffer in
+      sym (parts-all c k n cuts l (calls-length h ds long)) ∙ joins-ext k _ _ (λ i. as-alone i h ds long .part)
 
 -- ---- two runners, one cut: after a call of one, the buffer is its part as the call gave it back and the other part as it was
 module _ {S : Type 0} (E : Engine S) (x : ℕ) (h : Host S) (d : Call) where

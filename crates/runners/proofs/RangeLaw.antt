@@ -1,8 +1,7 @@
 -- Ranges that follow each other: the answers on a range list its zeros and count its places (walks/proofs/RunsLaw, on the walk with that end),
 -- and by recursion on the number of ranges they add up to the whole walk.
 use mathlib.Core.Path.{_≡_, refl, sym, ap, ap₂, subst, _∙_}
-use mathlib.Core.Logic.{_⊎_, ⊎-elim, by-cases, _↔_}
-use mathlib.Core.Bool.{Bool, true, false}
+use mathlib.Core.Logic.{by-cases}
 use mathlib.Core.Option.{Option, none, some}
 use mathlib.Core.List.{List, [], _∷_, _++_, map}
 use Prim.Native.Nat.{ℕ, zero, suc, _+_, _-_, _≤_, _<_}
@@ -14,7 +13,7 @@ use Rattle.residues.specs.Sums.{sum}
 use Rattle.walks.specs.declared.Stop.{Stop}
 use Rattle.walks.specs.declared.Stop.the-variants.{Ended}
 use Rattle.walks.specs.declared.Report.{Report}
-use Rattle.walks.specs.Calls.{Trail, zerosIn, costIn, pointsIn, reportIn, reportOf, listAfter, until}
+use Rattle.walks.specs.Calls.{Trail, zerosIn, costIn, reportIn, reportOf, listAfter, until}
 use Rattle.walks.specs.Zeros.{placesIn, Once, Distinct}
 use Rattle.walks.specs.Runs.{Request, Reply, Engine, pointsTold, additionsTold, listedIn, lastTold, sumsOf, SaysEnded, OneReply, EachReply, WholeRun, Asks, Serves, Willing}
 use Rattle.walks.proofs.CallLaw.{zeros-add, cost-add, points-none, at-end}
@@ -23,7 +22,7 @@ use Rattle.walks.proofs.ZeroLaw.{zeros-map, all-hold, all-once}
 use Rattle.walks.proofs.RunsLaw.{each-reply, sums-are, ended-iff}
 use Rattle.runners.specs.Cuts.{Cuts, cutAt, partIn, joins}
 use Rattle.runners.specs.Order.{Call, Host, repliesTo, callsOf, requestsOf, repliesOf, aloneOf, Keeps}
-use Rattle.runners.specs.Ranges.{foundTold, Totals, totalsOf, WholeRange, OneWalk, TwoRanges, SameTotals}
+use Rattle.runners.specs.Ranges.{foundTold, totalsOf, WholeRange, OneWalk, TwoRanges, SameTotals}
 use Rattle.runners.proofs.CutLaw.{cuts-within, cut-cuts}
 use Rattle.runners.proofs.OrderLaw.{as-alone}
 

@@ -1,10 +1,10 @@
 -- One list cut into parts, one for each runner; the places of a walk are cut into ranges in the same way.
+use mathlib.Core.Path.{_≡_}
 use mathlib.Core.List.{List, [], _++_}
 use Prim.Native.Nat.{ℕ, zero, suc, _-_, _≤_}
 use lib.Dec.{eqb, ltb}
 use lib.ListN.{take, drop}
 use lib.Seq.{slice}
-use mathlib.Core.Path.{_≡_}
 use Rattle.refusals.specs.declared.Refusal.the-variants as refusal
 use Rattle.refusals.specs.declared.Verdict.{Verdict}
 use Rattle.refusals.specs.declared.Verdict.the-variants as verdict

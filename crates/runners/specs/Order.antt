@@ -77,8 +77,8 @@ aloneOf E c i h ds = requestsOf E (h .states i) (partIn c i (h .buffer)) (callsO
 pub record AsAlone {S : Type 0} (E : Engine S) (c : ℕ → ℕ) (i : ℕ) (h : Host S) (ds : List Call) : Type 0 where
   pub replies : repliesTo E c i h ds ≡ repliesOf E (h .states i) (aloneOf E c i h ds)
   pub state : hostAfter E c h ds .states i ≡ sumsOf E (h .states i) (aloneOf E c i h ds) .last
-  pub part : partIn c i (hostAfter E c h ds .buffer) ≡ lastList (partIn c i (h .buffer)) (repliesTo E c i h ds)
+  pub part : partIn c i (hostAfter E c h ds .buffer) ≡ lastList (partIn c i (h .buffer)) (repliesOf E (h .states i) (aloneOf E c i h ds))
 
--- ---- what is askedWith of an engine: a call gives back as long a list as it was lent
+-- ---- what is asked of an engine: a call gives back as long a list as it was lent
 abbrev pub Keeps : {S : Type 0} → Engine S → Type 0
 Keeps {S} E = (s : S) (q : Request) → length (E s q .list) ≡ length (q .list)
