@@ -34,6 +34,20 @@
  * place are those of its digits base 3 that are not 0, the lowest first, that of a digit 2 twice: those of 5 are 0, 0, 1.
  * Moving to a place adds 1 modulo 3 to the unknown at its first position.
  *
+ * RANGES AND RUNNERS
+ *
+ * A walk record has a place and an end: its range is the places from its place on, below its end. A search examines these
+ * and no other, and has ended when the place is the end. vayudrit_open opens a record up to 3^n, the end of the whole walk,
+ * vayudrit_open_range up to any end. If one range ends where the next begins, and together they go from 0 to 3^n, then their
+ * lists one after the other, in the order of the ranges, and their summed points, additions and found are those of one whole
+ * walk.
+ *
+ * Runners, threads or processes, may read the same table at the same time; each has its own record, its own answer and its
+ * own list, or part of a list. Whatever the order of their calls, each has the answers, the record and the list part that
+ * it has alone. One list buffer is cut once, at an entry number, into the part before the cut and the part from the cut
+ * on; vayudrit_part says where each begins and how long it is. To the search of a runner its part is the whole list
+ * (pass list + 8 * first, and 8 * entries as its bytes), so that it writes to no other entry.
+ *
  * BUFFERS
  *
  * Every buffer belongs to the caller: it is read or written during the call, never kept. It is a pointer and, right
@@ -73,10 +87,13 @@ extern "C" {
 #define VAYUDRIT_TABLE3_WORDS(n) (2 * VAYUDRIT_MONOMIALS3(n))
 #define VAYUDRIT_TABLE3_BYTES(n) (16 * VAYUDRIT_MONOMIALS3(n))
 #define VAYUDRIT_MAX_TABLE3_WORDS 3502
-#define VAYUDRIT_RECORD_WORDS 465
-#define VAYUDRIT_RECORD_BYTES 3720
+#define VAYUDRIT_RECORD_WORDS 466
+#define VAYUDRIT_RECORD_BYTES 3728
+#define VAYUDRIT_RECORD_PLACE 2 /* which word of a record is its place, and which its end */
+#define VAYUDRIT_RECORD_END 465
 #define VAYUDRIT_ANSWER_WORDS 5
 #define VAYUDRIT_ANSWER_BYTES 40
+#define VAYUDRIT_PART_WORDS 2
 #define VAYUDRIT_MAX_TEXT_BYTES 32768
 #define VAYUDRIT_GRAPH_WORDS 2
 #define VAYUDRIT_TIDY_WORDS 4
@@ -86,14 +103,15 @@ extern "C" {
 #define VAYUDRIT_DONE 0           /* nothing was refused */
 #define VAYUDRIT_REFUSED_SIZE 1   /* n is not 1 to 20, or m is not 1 to 64 */
 #define VAYUDRIT_REFUSED_LENGTH 2 /* a table has the length of neither degree, another buffer is not of the exact length,
-                                     or the list's bytes are no multiple of 8 */
+                                     the list's bytes are no multiple of 8, or a cut is beyond the list */
 #define VAYUDRIT_REFUSED_PAIR 3   /* a table holds an illegal pair; returned with 256 times the number of its entry */
-#define VAYUDRIT_REFUSED_RANGE 4  /* a place for opening above 3^n; a place or point to convert or to evaluate at of 3^n
-                                     or more; a balanced number outside its ends */
-#define VAYUDRIT_REFUSED_RECORD 5 /* the record's n or m is not the table's, its place is above 3^n, or it is not the
-                                     record that opening this table at its place gives */
+#define VAYUDRIT_REFUSED_RANGE 4  /* a place or an end for opening above 3^n, or an end below its place; a place or point to
+                                     convert or to evaluate at of 3^n or more; a balanced number outside its ends */
+#define VAYUDRIT_REFUSED_RECORD 5 /* the record's n or m is not the table's, its place or its end is above 3^n, its end is
+                                     below its place, or it is not the record that opening this table at its place with
+                                     its end gives */
 #define VAYUDRIT_REFUSED_BUDGET 6 /* the budget is 0 */
-#define VAYUDRIT_REFUSED_LIST 7   /* the list has no entry */
+#define VAYUDRIT_REFUSED_LIST 7   /* the list, or a part of it, has no entry */
 
 /* What vayudrit_read_graph and vayudrit_tidy return, too: the number plus 256 times the line, counted from 1, or 0 where no line applies. */
 #define VAYUDRIT_REFUSED_SHAPE 10  /* a line of no known shape */
@@ -112,7 +130,7 @@ extern "C" {
 #define VAYUDRIT_LINE(r) ((r) / 256)
 
 /* Why a search stopped: word 0 of its answer. */
-#define VAYUDRIT_ENDED 0 /* the place is 3^n: every point was examined */
+#define VAYUDRIT_ENDED 0 /* the place is the record's end: every point of its range was examined */
 #define VAYUDRIT_FULL 1  /* every list entry is used */
 #define VAYUDRIT_SPENT 2 /* the budget of points is used up */
 
@@ -123,24 +141,28 @@ extern "C" {
  *   record   VAYUDRIT_RECORD_BYTES bytes, whatever n and the degree: the words n, m, place, value high, value low, then
  *            high and low of 20 slots, then high and low of 210 second slots, one for each pair b <= c in the order of
  *            the products at n = 20: (0,0), (0,1), .. (0,19), (1,1), .. (19,19). Those of unknowns that the system lacks
- *            are 0, and so are all second slots with a quadratic table.
- *            It must be as vayudrit_open or an earlier search of this table left it.
+ *            are 0, and so are all second slots with a quadratic table. The last word is the end.
+ *            It must be as vayudrit_open, vayudrit_open_range or an earlier search of this table left it. Only the end may
+ *            be another, from the record's place to 3^n: with it the record is that of another range.
  *   budget   the most points to examine, any number but 0.
- *   list     a multiple of 8 bytes, at least 8, as many as you like: one entry of 8 bytes for each zero found.
+ *   list     a multiple of 8 bytes, at least 8, as many as you like: one entry of 8 bytes for each zero found. It may be a
+ *            part of a longer list; the rest of that is another runner's.
  *   answer   VAYUDRIT_ANSWER_BYTES bytes, written whole: the words stop, place, points, additions, found. After a
  *            refusal it is what it was: look at the return value first.
  *
- * On 0: the points from the record's place on were examined, one after the other, until the place was 3^n (ended),
- * every list entry was used (full) or the budget was used up (spent), asked in this order after each point; ended is
- * also asked before the first. The record is moved on: it is the one that opening at its new place gives, so calling
- * again goes on where this call stopped. The answer's place is the record's place, also when ended; points and
- * additions are those of this call. The first `found` entries of the list are the zeros among the examined places, as
- * points, in the order of the walk; the bytes after them are as they were. No zero found is no refusal.
- * Refusals: 1, 2, 3, 5, 6, 7.
+ * On 0: the points from the record's place on were examined, one after the other, until the place was the record's end
+ * (ended), every list entry was used (full) or the budget was used up (spent), asked in this order after each point; ended
+ * is also asked before the first, so that a record whose place is its end has ended at once, with no points. The record is
+ * moved on: it is the one that opening at its new place with the same end gives, so calling again goes on where this call
+ * stopped. A call that begins before the end examines at least one point. The answer's place is the record's place, also
+ * when ended: then it is the end. Points and additions are those of this call. The first `found` entries of the list are
+ * the zeros among the examined places, as points, in the order of the walk; the bytes after them are as they were. No zero
+ * found is no refusal.
+ * Refusals: 1, 2, 3, 5, 6, 7, also of a record whose place is its end.
  *
  * Additions are those of the walk; none is counted for checks. A place costs one for each of its positions, up to 2 with a
- * quadratic table and up to 3 with a cubic one. A whole walk makes 2 (3^n - 1) - n, or 3 (3^n - 1) - 2 n - n (n + 1) / 2:
- * at n = 2 these are 14 and 17.
+ * quadratic table and up to 3 with a cubic one, whatever the range in which it is examined. A whole walk makes
+ * 2 (3^n - 1) - n, or 3 (3^n - 1) - 2 n - n (n + 1) / 2: at n = 2 these are 14 and 17.
  *
  * At n = 1, where the table's length does not tell the degree, the record does: second slot (0,0) is 0 in the quadratic
  * one and the table's entry of x0*x0 in the cubic one. Either is accepted and comes back moved on as what it was; list,
@@ -191,18 +213,35 @@ uint64_t vayudrit_evaluate(uint64_t n, uint64_t m, const uint64_t *coefficients,
                            uint64_t point, uint64_t *value, size_t value_words);
 
 /*
- * The record of a table of differences at any place from 0 to 3^n: VAYUDRIT_RECORD_WORDS words, in the order that
- * vayudrit_search has them in. On a machine with the lowest byte first these words are the search's bytes as they
- * stand; elsewhere write each word as 8 bytes, the lowest first.
+ * The record of a table of differences at any place from 0 to 3^n, with the end 3^n: VAYUDRIT_RECORD_WORDS words, in the
+ * order that vayudrit_search has them in. On a machine with the lowest byte first these words are the search's bytes as
+ * they stand; elsewhere write each word as 8 bytes, the lowest first.
  *
  * Let q be the place before, or 0 at place 0. The value is the system's at the point of q. Slot b is what was last added
  * to the value, at or before q, at a place whose first position is b; before that what will be added at 3^b. With a cubic
  * table second slot (b,c) is the change last added to slot b, at or before q, at a place whose first two positions are
  * b, c; before that the change due at 3^b + 3^c. At n = 1 the record is the quadratic one.
- * Refusals: 1, 2 (record_words is not 465, too), 3, 4.
+ * Refusals: 1, 2 (record_words is not 466, too), 3, 4.
  */
 uint64_t vayudrit_open(uint64_t n, uint64_t m, const uint64_t *table, size_t table_words, uint64_t place,
                        uint64_t *record, size_t record_words);
+
+/*
+ * The record at a place with any end from that place to 3^n: it differs from that of vayudrit_open in the end alone. Place
+ * and end may be the same; such a record has ended. Refusals: 1, 2 (record_words is not 466, too), 3, 4 (the place or the
+ * end is above 3^n, or the end is below the place).
+ */
+uint64_t vayudrit_open_range(uint64_t n, uint64_t m, const uint64_t *table, size_t table_words, uint64_t place,
+                             uint64_t end, uint64_t *record, size_t record_words);
+
+/*
+ * Which entries of a list are a runner's, when a list of list_entries entries is cut at an entry number: part has 2 words,
+ * the number of its first entry and how many it has. Side 0 is the part before the cut, entries 0 to cut - 1; any other
+ * number is the part from the cut on, entries cut to list_entries - 1. No entry is in both, and every entry is in one.
+ * A runner's search takes its part as its list: list + 8 * part[0], with 8 * part[1] bytes.
+ * Refusals: 2 (the cut is beyond the list: above list_entries; or part_words is not 2), 7 (the part has no entry).
+ */
+uint64_t vayudrit_part(uint64_t list_entries, uint64_t cut, uint64_t side, uint64_t *part, size_t part_words);
 
 /* The point at a place, and the place of a point: 1 word. Refusals: 1, 2 (the count is not 1), 4. */
 uint64_t vayudrit_point(uint64_t n, uint64_t place, uint64_t *point, size_t point_words);
@@ -287,5 +326,22 @@ uint64_t vayudrit_tidy(const uint8_t *text, size_t text_bytes, uint8_t *out, siz
  *
  *   if (vayudrit_pack(3, 1, rows, VAYUDRIT_MONOMIALS3(3), c, VAYUDRIT_TABLE3_WORDS(3)) != VAYUDRIT_DONE)
  *       return 1;
+ *
+ * EXAMPLE (examples/two.c): two threads on one table and one list. The walk is cut at a place, the list at an entry; runner
+ * s, 0 or 1, has the words and bytes of its own:
+ *
+ *   if (vayudrit_open_range(n, m, d, d_words, s == 0 ? 0 : middle, s == 0 ? middle : end, r, VAYUDRIT_RECORD_WORDS)
+ *           != VAYUDRIT_DONE
+ *       || vayudrit_part(entries, cut, s, part, VAYUDRIT_PART_WORDS) != VAYUDRIT_DONE)
+ *       return 1;
+ *   .. put the words of r into record ..
+ *   do {
+ *       if (vayudrit_search(n, m, table, table_bytes, record, VAYUDRIT_RECORD_BYTES, budget, list + 8 * part[0],
+ *                           8 * part[1], answer, VAYUDRIT_ANSWER_BYTES) != VAYUDRIT_DONE)
+ *           return 1;
+ *       .. take the entries of the part, as many as word 4 of answer says ..
+ *   } while (answer[0] != VAYUDRIT_ENDED);
+ *
+ * The zeros of runner 0 and then those of runner 1 are the zeros of the whole walk, in its order.
  */
 #endif
