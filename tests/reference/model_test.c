@@ -411,7 +411,7 @@ static void cubic_monomials(void) {
     EXPECT(degree_of(1, 6) == 2 && degree_of(2, 12) == 2 && degree_of(2, 16) == 3);
     EXPECT(degree_of(20, 462) == 2 && degree_of(20, 3502) == 3 && degree_of(20, 3500) == 0);
     EXPECT(second_slot(0, 0) == 45 && second_slot(0, 19) == 83 && second_slot(1, 1) == 85);
-    EXPECT(second_slot(19, 19) == 463);
+    EXPECT(second_slot(19, 19) == 463 && RECORD_END == 465 && RECORD_WORDS == 466);
 }
 
 /* Evaluation of rows at every point, and of one row at far ones. */
@@ -523,7 +523,7 @@ static void one_unknown(void) {
     struct table c = pack(1, 1, row), d = differences(&c);
     struct run r, other;
     start(&r, &d, 0);
-    for (size_t k = RECORD_SECONDS; k < RECORD_WORDS; k++)
+    for (size_t k = RECORD_SECONDS; k < RECORD_END; k++)
         EXPECT(r.record[k] == 0);
     EXPECT(d.words[4] == 1 && d.words[5] == 0);
     other = r;
@@ -561,7 +561,7 @@ static void cubic_refusals(void) {
     EXPECT(reference_coefficients(3, 2, d.words, 20, words, 34) == 2);
     EXPECT(reference_evaluate(3, 2, c.words, 33, 0, words, 2) == 2);
     start(&r, &d, 14);
-    for (unsigned word = 0; word < RECORD_WORDS; word++) {
+    for (unsigned word = 0; word < RECORD_END; word++) {
         r.record[word] ^= 1;
         go_on(&r, &d, 1, 1);
         EXPECT(r.refusal == 5);
@@ -585,11 +585,152 @@ static void degree_three(void) {
     cubic_refusals();
 }
 
+/* ---- C-16: ranges ---- */
+
+static void start_range(struct run *r, const struct table *d, uint64_t place, uint64_t end) {
+    for (unsigned k = 0; k < 100; k++)
+        r->list[k] = JUNK;
+    EXPECT(reference_open_range(d->n, d->m, d->words, length(d), place, end, r->record,
+                                RECORD_WORDS) == 0);
+}
+
+/* A search of the range gives these points and this answer, and leaves the rest of the list. */
+static int gives_in(const struct table *d, uint64_t from, uint64_t to, uint64_t budget,
+                    size_t list_len, const uint64_t *list, const uint64_t answer[ANSWER_WORDS]) {
+    struct run r;
+    start_range(&r, d, from, to);
+    go_on(&r, d, budget, list_len);
+    for (uint64_t k = 0; k < 100; k++)
+        if (r.list[k] != (k < answer[ANSWER_FOUND] ? list[k] : JUNK)) return 0;
+    return r.refusal == 0 && memcmp(r.answer, answer, sizeof r.answer) == 0
+        && r.record[RECORD_PLACE] == answer[ANSWER_PLACE] && r.record[RECORD_END] == to;
+}
+
+/* The edge equation: the points at places 0 to 8 are 0, 1, 2, 5, 3, 4, 7, 8, 6, all zeros but 0, 4
+ * and 8; the costs are 0, 1, 2, 1, 2, 2, 2, 2, 2. */
+static void ranges_by_hand(void) {
+    static const uint64_t list[6] = {1, 2, 5, 3, 7, 6};
+    struct table c = pack(2, 1, EDGE), d = differences(&c);
+    EXPECT(gives_in(&d, 2, 5, NO_LIMIT, 100, list + 1, (uint64_t[]){ENDED, 5, 3, 5, 3}));
+    EXPECT(gives_in(&d, 2, 5, 3, 3, list + 1, (uint64_t[]){ENDED, 5, 3, 5, 3}));
+    EXPECT(gives_in(&d, 2, 5, 2, 3, list + 1, (uint64_t[]){SPENT, 4, 2, 3, 2}));
+    EXPECT(gives_in(&d, 2, 5, 9, 2, list + 1, (uint64_t[]){FULL, 4, 2, 3, 2}));
+    EXPECT(gives_in(&d, 0, 1, 1, 1, list, (uint64_t[]){ENDED, 1, 1, 0, 0}));
+    EXPECT(gives_in(&d, 5, 6, 1, 1, list, (uint64_t[]){ENDED, 6, 1, 2, 0}));
+    EXPECT(gives_in(&d, 8, 9, 1, 1, list + 5, (uint64_t[]){ENDED, 9, 1, 2, 1}));
+    EXPECT(gives_in(&d, 0, 9, 9, 6, list, (uint64_t[]){ENDED, 9, 9, 14, 6}));
+    for (uint64_t p = 0; p <= 9; p++) /* "A range with p = e ends at once with no points" */
+        EXPECT(gives_in(&d, p, p, 1, 1, list, (uint64_t[]){ENDED, p, 0, 0, 0}));
+}
+
+/* Opening with an end differs from opening without in the last word alone. */
+static void opened_ranges(void) {
+    for (unsigned degree = 2; degree <= 3; degree++) {
+        struct table c = random_system(3, 4, degree), d = differences(&c);
+        for (uint64_t place = 0; place <= 27; place++) {
+            struct run whole, range;
+            start(&whole, &d, place);
+            EXPECT(whole.record[RECORD_END] == 27);
+            for (uint64_t end = place; end <= 27; end++) {
+                start_range(&range, &d, place, end);
+                EXPECT(memcmp(range.record, whole.record, RECORD_END * sizeof *whole.record) == 0);
+                EXPECT(range.record[RECORD_END] == end);
+            }
+        }
+    }
+}
+
+/* What a range gives is added to what the ranges before it gave: the list goes on, counts add up.
+ * One point a call if by is 1, otherwise the whole range in one. */
+static void add_range(const struct table *d, uint64_t from, uint64_t to, uint64_t by,
+                      uint64_t sum[ANSWER_WORDS], uint64_t *list) {
+    struct run r;
+    start_range(&r, d, from, to);
+    do {
+        uint64_t place = r.record[RECORD_PLACE];
+        go_on(&r, d, by, 100);
+        EXPECT(r.refusal == 0 && r.record[RECORD_END] == to);
+        EXPECT(by != 1 || r.record[RECORD_PLACE] == place + (place < to));
+        memcpy(list + sum[ANSWER_FOUND], r.list, (size_t)r.answer[ANSWER_FOUND] * sizeof *list);
+        for (unsigned k = ANSWER_POINTS; k <= ANSWER_FOUND; k++)
+            sum[k] += r.answer[k];
+    } while (r.answer[ANSWER_STOP] != ENDED);
+    EXPECT(r.answer[ANSWER_PLACE] == to);
+}
+
+/* "When one runner's range ends where the other's begins and the two cover 0 to 3^n, the joined lists
+ * in range order and the summed counts are those ... for one whole walk." At every cut. */
+static void joined_ranges(void) {
+    for (unsigned k = 0; k < 8; k++) {
+        unsigned n = 1 + k % 4;
+        struct table c = random_system(n, 1 + k % 3, k < 4 ? 2 : 3), d = differences(&c);
+        uint64_t end = power_of_three(n);
+        struct run whole;
+        start(&whole, &d, 0);
+        go_on(&whole, &d, NO_LIMIT, 100);
+        for (uint64_t cut = 0; cut <= end; cut++)
+            for (uint64_t by = 1; by <= 1000; by += 999) {
+                uint64_t sum[ANSWER_WORDS] = {ENDED, end, 0, 0, 0}, list[100];
+                add_range(&d, 0, cut, by, sum, list);
+                add_range(&d, cut, end, by, sum, list);
+                EXPECT(memcmp(sum, whole.answer, sizeof sum) == 0);
+                EXPECT(memcmp(list, whole.list, (size_t)sum[ANSWER_FOUND] * sizeof *list) == 0);
+            }
+    }
+}
+
+/* An end from the place to 3^n makes a record of another range; any other is 5. At n = 1 in either
+ * reading. */
+static void ends_in_records(void) {
+    for (unsigned k = 0; k < 6; k++) {
+        struct table c = random_system(1 + k % 3, 3, k < 3 ? 2 : 3), d = differences(&c);
+        uint64_t last = power_of_three((unsigned)d.n);
+        for (uint64_t place = 0; place <= last; place++)
+            for (uint64_t end = 0; end <= last + 2; end++) {
+                struct run r, before;
+                start(&r, &d, place);
+                r.record[RECORD_END] = end;
+                if (d.n == 1 && k == 3)
+                    memcpy(r.record + second_slot(0, 0), d.words + 4, 2 * sizeof *d.words);
+                before = r;
+                go_on(&r, &d, NO_LIMIT, 100);
+                EXPECT(r.refusal == (end < place || end > last ? 5 : 0));
+                EXPECT(r.refusal == 0 || memcmp(&r.record, &before.record, sizeof r.record) == 0);
+                EXPECT(r.refusal != 0 || r.answer[ANSWER_POINTS] == end - place);
+                EXPECT(r.refusal != 0 || r.record[RECORD_END] == end);
+            }
+    }
+}
+
+static void parts_of_lists(void) {
+    uint64_t part[3] = {JUNK, JUNK, JUNK};
+    EXPECT(reference_part(9, 4, 0, part, 2) == 0 && part[0] == 0 && part[1] == 4);
+    EXPECT(reference_part(9, 4, 1, part, 2) == 0 && part[0] == 4 && part[1] == 5);
+    EXPECT(reference_part(9, 4, UINT64_MAX, part, 2) == 0 && part[0] == 4 && part[1] == 5);
+    EXPECT(reference_part(9, 9, 0, part, 2) == 0 && part[0] == 0 && part[1] == 9);
+    EXPECT(reference_part(9, 0, 1, part, 2) == 0 && part[0] == 0 && part[1] == 9);
+    part[0] = part[1] = JUNK;
+    EXPECT(reference_part(9, 9, 1, part, 2) == 7 && reference_part(9, 0, 0, part, 2) == 7);
+    EXPECT(reference_part(0, 0, 0, part, 2) == 7 && reference_part(0, 0, 1, part, 2) == 7);
+    EXPECT(reference_part(9, 10, 0, part, 2) == 2 && reference_part(9, 10, 1, part, 2) == 2);
+    EXPECT(reference_part(0, 1, 1, part, 2) == 2 && reference_part(9, UINT64_MAX, 0, part, 2) == 2);
+    EXPECT(reference_part(9, 4, 0, part, 1) == 2 && reference_part(9, 9, 1, part, 3) == 2);
+    EXPECT(part[0] == JUNK && part[1] == JUNK && part[2] == JUNK);
+}
+
+static void ranges(void) {
+    ranges_by_hand();
+    opened_ranges();
+    joined_ranges();
+    ends_in_records();
+    parts_of_lists();
+}
+
 /* Faults are taken away one after another; what is lent must stay as it was. */
 static void refusal_order(void) {
     struct table c = random_system(2, 3, 2), d = differences(&c), kept;
     struct run r, before;
-    uint8_t table[96], record[3720], list[16] = {9, 9, 9}, answer[40] = {7};
+    uint8_t table[96], record[3728], list[16] = {9, 9, 9}, answer[40] = {7};
     d.words[3] |= 1; /* an illegal pair */
     d.words[2] &= ~(uint64_t)1;
     kept = d;
@@ -598,26 +739,33 @@ static void refusal_order(void) {
     before = r;
 #define SEARCH(n, t_len, r_len, budget, l_len, a_len) \
     reference_search_words(n, 3, d.words, t_len, r.record, r_len, budget, r.list, l_len, r.answer, a_len)
-    EXPECT(SEARCH(21, 11, 464, 0, 0, 4) == 1);
-    EXPECT(SEARCH(2, 11, 465, 0, 0, 5) == 2);
-    EXPECT(SEARCH(2, 12, 464, 0, 0, 5) == 2);
-    EXPECT(SEARCH(2, 12, 465, 0, 0, 6) == 2);
-    EXPECT(SEARCH(2, 12, 465, 0, 0, 5) == 3 + 256);
+    EXPECT(SEARCH(21, 11, 465, 0, 0, 4) == 1);
+    EXPECT(SEARCH(2, 11, 466, 0, 0, 5) == 2);
+    EXPECT(SEARCH(2, 12, 465, 0, 0, 5) == 2);
+    EXPECT(SEARCH(2, 12, 466, 0, 0, 6) == 2);
+    EXPECT(SEARCH(2, 12, 466, 0, 0, 5) == 3 + 256);
     EXPECT(memcmp(&kept, &d, sizeof d) == 0 && memcmp(&before, &r, sizeof r) == 0);
     d = differences(&c);
-    EXPECT(SEARCH(2, 12, 465, 0, 0, 5) == 5);
+    EXPECT(SEARCH(2, 12, 466, 0, 0, 5) == 5);
     start(&r, &d, 4);
     before = r;
-    for (unsigned word = 0; word < RECORD_WORDS; word++) {
+    for (unsigned word = 0; word < RECORD_END; word++) {
         r.record[word] ^= 1;
-        EXPECT(SEARCH(2, 12, 465, 0, 0, 5) == 5);
+        EXPECT(SEARCH(2, 12, 466, 0, 0, 5) == 5);
         r.record[word] ^= 1;
     }
     r.record[RECORD_PLACE] = 10;
-    EXPECT(SEARCH(2, 12, 465, 1, 1, 5) == 5);
+    EXPECT(SEARCH(2, 12, 466, 1, 1, 5) == 5);
     r.record[RECORD_PLACE] = 4;
-    EXPECT(SEARCH(2, 12, 465, 0, 0, 5) == 6);
-    EXPECT(SEARCH(2, 12, 465, 1, 0, 5) == 7);
+    r.record[RECORD_END] = 10;
+    EXPECT(SEARCH(2, 12, 466, 0, 0, 5) == 5);
+    r.record[RECORD_END] = 3;
+    EXPECT(SEARCH(2, 12, 466, 0, 0, 5) == 5);
+    r.record[RECORD_END] = 4;
+    EXPECT(SEARCH(2, 12, 466, 0, 0, 5) == 6 && SEARCH(2, 12, 466, 1, 0, 5) == 7);
+    r.record[RECORD_END] = 9;
+    EXPECT(SEARCH(2, 12, 466, 0, 0, 5) == 6);
+    EXPECT(SEARCH(2, 12, 466, 1, 0, 5) == 7);
     EXPECT(memcmp(&before, &r, sizeof r) == 0);
 #undef SEARCH
     /* the harness's bytes: the same, lowest byte first */
@@ -625,14 +773,14 @@ static void refusal_order(void) {
         put_word(table + 8 * k, d.words[k]);
     for (unsigned k = 0; k < RECORD_WORDS; k++)
         put_word(record + 8 * k, r.record[k]);
-    EXPECT(reference_search(2, 65, table, 95, record, 3719, 0, list, 7, answer, 39) == 1);
-    EXPECT(reference_search(2, 3, table, 95, record, 3720, 0, list, 0, answer, 40) == 2);
-    EXPECT(reference_search(2, 3, table, 96, record, 3721, 0, list, 0, answer, 40) == 2);
-    EXPECT(reference_search(2, 3, table, 96, record, 3720, 0, list, 7, answer, 40) == 2);
-    EXPECT(reference_search(2, 3, table, 96, record, 3720, 0, list, 0, answer, 32) == 2);
-    EXPECT(reference_search(2, 3, table, 96, record, 3720, 0, list, 0, answer, 40) == 6);
+    EXPECT(reference_search(2, 65, table, 95, record, 3727, 0, list, 7, answer, 39) == 1);
+    EXPECT(reference_search(2, 3, table, 95, record, 3728, 0, list, 0, answer, 40) == 2);
+    EXPECT(reference_search(2, 3, table, 96, record, 3729, 0, list, 0, answer, 40) == 2);
+    EXPECT(reference_search(2, 3, table, 96, record, 3728, 0, list, 7, answer, 40) == 2);
+    EXPECT(reference_search(2, 3, table, 96, record, 3728, 0, list, 0, answer, 32) == 2);
+    EXPECT(reference_search(2, 3, table, 96, record, 3728, 0, list, 0, answer, 40) == 6);
     EXPECT(answer[0] == 7 && record[16] == 4 && list[0] == 9);
-    EXPECT(reference_search(2, 3, table, 96, record, 3720, 2, list, 16, answer, 40) == 0);
+    EXPECT(reference_search(2, 3, table, 96, record, 3728, 2, list, 16, answer, 40) == 0);
     EXPECT(answer[0] == SPENT && answer[8] == 6 && answer[16] == 2 && answer[24] == 4);
     EXPECT(record[0] == 2 && record[8] == 3 && record[16] == 6 && record[17] == 0);
     /* the other operations, two faults at a time */
@@ -644,9 +792,16 @@ static void refusal_order(void) {
     EXPECT(reference_evaluate(2, 3, d.words, 12, 9, r.list, 1) == 2);
     EXPECT(reference_evaluate(2, 3, d.words, 12, 9, r.list, 2) == 3);
     EXPECT(reference_evaluate(2, 3, c.words, 12, 9, r.list, 2) == 4);
-    EXPECT(reference_open(2, 3, d.words, 12, 10, r.list, 464) == 2);
-    EXPECT(reference_open(2, 3, d.words, 12, 10, r.list, 465) == 3);
-    EXPECT(reference_open(2, 3, c.words, 12, 10, r.list, 465) == 4);
+    EXPECT(reference_open(2, 3, d.words, 12, 10, r.list, 465) == 2);
+    EXPECT(reference_open(2, 3, d.words, 12, 10, r.list, 466) == 3);
+    EXPECT(reference_open(2, 3, c.words, 12, 10, r.list, 466) == 4);
+    EXPECT(reference_open_range(2, 3, d.words, 12, 5, 4, r.list, 465) == 2);
+    EXPECT(reference_open_range(2, 3, d.words, 12, 5, 4, r.list, 466) == 3);
+    EXPECT(reference_open_range(2, 3, c.words, 12, 5, 4, r.list, 466) == 4);
+    EXPECT(reference_open_range(2, 3, c.words, 12, 5, 10, r.list, 466) == 4);
+    EXPECT(reference_open_range(2, 3, c.words, 12, 10, 10, r.list, 466) == 4);
+    EXPECT(reference_open_range(2, 3, c.words, 12, 0, UINT64_MAX, r.list, 466) == 4);
+    EXPECT(reference_open_range(21, 3, c.words, 12, 5, 4, r.list, 465) == 1);
     EXPECT(reference_differences(2, 3, d.words, 12, r.list, 11) == 2);
     EXPECT(reference_differences(2, 3, d.words, 12, r.list, 12) == 3);
     EXPECT(reference_coefficients(2, 3, d.words, 12, r.list, 12) == 3);
@@ -758,6 +913,7 @@ int main(void) {
     additions_of_whole_walks();
     records();
     degree_three();
+    ranges();
     refusal_order();
     graphs();
     printf("%u passed, %u failed\n", passed, failed);

@@ -528,8 +528,9 @@ static void open_seconds(const struct system *s, uint64_t q, uint64_t record[REC
 }
 
 /* "It holds n, m, the place p ..., the value vector, and one slot vector per unknown; slots
- * from n to 19 are zero." Second slots are there if the degree is 3; "unused ones zero". */
-static void open_record(const struct system *s, unsigned degree, uint64_t place,
+ * from n to 19 are zero." Second slots are there if the degree is 3; "unused ones zero". C-16: "A
+ * record gets an end as well as a place". */
+static void open_record(const struct system *s, unsigned degree, uint64_t place, uint64_t end,
                         uint64_t record[RECORD_WORDS]) {
     uint8_t trit[MOST_EQUATIONS];
     uint64_t q = place > 0 ? place - 1 : 0; /* "Let q be p - 1, or 0 when p is 0." */
@@ -537,6 +538,7 @@ static void open_record(const struct system *s, unsigned degree, uint64_t place,
     record[RECORD_N] = s->n;
     record[RECORD_M] = s->m;
     record[RECORD_PLACE] = place;
+    record[RECORD_END] = end;
     /* "The value is the system at the point of place q." */
     system_at(s, point_of_place(q), trit);
     put_pair(s->m, trit, record + RECORD_VALUE);
@@ -558,29 +560,58 @@ static void open_table(uint64_t n, uint64_t m, const uint64_t *table, size_t tab
     turn_system(&differences, 1, s);
 }
 
-uint64_t reference_open(uint64_t n, uint64_t m, const uint64_t *table, size_t table_len,
-                        uint64_t place, uint64_t *record, size_t record_len) {
+/* C-16: "opening takes place p and end e with p <= e <= 3^n" */
+static int in_range(unsigned n, uint64_t place, uint64_t end) {
+    return place <= end && end <= power_of_three(n);
+}
+
+uint64_t reference_open_range(uint64_t n, uint64_t m, const uint64_t *table, size_t table_len,
+                              uint64_t place, uint64_t end, uint64_t *record, size_t record_len) {
     struct system s;
     if (bad_size(n, m)) return 1;
     if (degree_of(n, table_len) == 0 || record_len != RECORD_WORDS) return 2;
     if (illegal_table(m, table, table_len)) return illegal_table(m, table, table_len);
-    if (place > power_of_three((unsigned)n)) return 4; /* "a place for opening above 3^n" */
+    /* "a place for opening above 3^n", and C-16: "4 also for an opening with e above 3^n or below
+     * p" */
+    if (!in_range((unsigned)n, place, end)) return 4;
     open_table(n, m, table, table_len, &s);
-    open_record(&s, s.degree, place, record);
+    open_record(&s, s.degree, place, end, record);
+    return 0;
+}
+
+/* Up to the end of the whole walk. */
+uint64_t reference_open(uint64_t n, uint64_t m, const uint64_t *table, size_t table_len,
+                        uint64_t place, uint64_t *record, size_t record_len) {
+    uint64_t end = bad_n(n) ? 0 : power_of_three((unsigned)n);
+    return reference_open_range(n, m, table, table_len, place, end, record, record_len);
+}
+
+/* ---- a list in two parts ---- */
+
+/* C-16: "The host cuts one list buffer once, at an entry number; a runner writes its own part and no
+ * other entry." "2 for a cut beyond the list; a part of no entries is 7." */
+uint64_t reference_part(uint64_t list_entries, uint64_t cut, uint64_t side, uint64_t *part,
+                        size_t part_len) {
+    uint64_t first = side == 0 ? 0 : cut, after = side == 0 ? cut : list_entries;
+    if (cut > list_entries || part_len != PART_WORDS) return 2;
+    if (first == after) return 7;
+    part[0] = first;
+    part[1] = after - first;
     return 0;
 }
 
 /* ---- the search ---- */
 
 /* "5: a record whose n or m isn't the table's, whose place is above 3^n, or that differs from
- * opening at its place for this table". The degree in whose reading it is right, or 0; at n = 1 a
- * table may be read in either. */
+ * opening at its place for this table"; C-16: "5 also for a record whose end is above 3^n or below
+ * its place". The degree in whose reading it is right, or 0; at n = 1 a table may be read in
+ * either. */
 static unsigned reading_of(const struct system *s, const uint64_t record[RECORD_WORDS]) {
     uint64_t opened[RECORD_WORDS];
     if (record[RECORD_N] != s->n || record[RECORD_M] != s->m) return 0;
-    if (record[RECORD_PLACE] > power_of_three(s->n)) return 0;
+    if (!in_range(s->n, record[RECORD_PLACE], record[RECORD_END])) return 0;
     for (unsigned degree = s->degree; degree <= (s->n == 1 ? 3 : s->degree); degree++) {
-        open_record(s, degree, record[RECORD_PLACE], opened);
+        open_record(s, degree, record[RECORD_PLACE], record[RECORD_END], opened);
         if (memcmp(record, opened, sizeof opened) == 0) return degree;
     }
     return 0;
@@ -604,7 +635,7 @@ uint64_t reference_search_words(uint64_t n, uint64_t m, const uint64_t *table, s
     if (budget == 0) return 6;
     if (list_len == 0) return 7;
     place = record[RECORD_PLACE];
-    end = power_of_three(s.n);
+    end = record[RECORD_END]; /* C-16: "'ended' means the place is e" */
     if (place == end) stop = ENDED; /* "'ended' is also asked before the first" */
     while (stop < 0) {
         uint64_t point = point_of_place(place);
@@ -613,13 +644,13 @@ uint64_t reference_search_words(uint64_t n, uint64_t m, const uint64_t *table, s
             list[found++] = point; /* "Found points fill the list from the front" */
         points++;
         place++;
-        /* "It stops when the place is 3^n ("ended"), when every list entry is used ("full") or
-         * when the budget of points is used up ("spent"), asked in that order" */
+        /* "It stops when the place is 3^n ("ended")", with C-16 the end, "when every list entry is
+         * used ("full") or when the budget of points is used up ("spent"), asked in that order" */
         if (place == end) stop = ENDED;
         else if (found == list_len) stop = FULL;
         else if (points == budget) stop = SPENT;
     }
-    open_record(&s, degree, place, record); /* "comes back moved on" */
+    open_record(&s, degree, place, end, record); /* "comes back moved on" */
     answer[ANSWER_STOP] = (uint64_t)stop;
     answer[ANSWER_PLACE] = place; /* "the record's, also when ended" */
     answer[ANSWER_POINTS] = points;

@@ -6,6 +6,9 @@
  * A table's length tells its degree, 2 or 3 (C-12). At n = 1, where both lengths are 6 words, it is
  * read as degree 2; the search takes a record of either reading there.
  *
+ * A record has an end as well as a place (C-16). A list is cut at an entry number: side 0 is the part
+ * before the cut, any other side the part from the cut on.
+ *
  * Every operation gives back a refusal number, or 0; of an illegal pair 3 plus 256 times its entry. "A refusal gives its number alone ... and
  * alters nothing lent. Order: 1, 2, 3, 4, 5, 6, 7, each over all arguments before the next."
  * Lengths count elements of the pointed-at type. */
@@ -19,16 +22,19 @@ enum {
     MOST_UNKNOWNS = 20,   /* "n from 1 to 20" */
     MOST_EQUATIONS = 64,  /* "m from 1 to 64" */
     MOST_MONOMIALS = 1751, /* C-12: "1,751 at n = 20" */
-    RECORD_WORDS = 465,   /* "n, m, place, value, then 20 slots, high before low"; C-12: a second
-                             slot for each of the 210 pairs; "sized and ordered as at n = 20" */
+    RECORD_WORDS = 466,   /* "n, m, place, value, then 20 slots, high before low"; C-12: a second
+                             slot for each of the 210 pairs; "sized and ordered as at n = 20"; C-16:
+                             the end; "fields that tickets add come last, in ticket order" */
     ANSWER_WORDS = 5,     /* "five words in a lent 40 bytes" */
+    PART_WORDS = 2,       /* C-16: a part of a list: its first entry, and how many */
     READER_WORDS = 462,   /* "fewer than 462 words lent to the reader" */
     READER_BYTES = 32768, /* "text above 32,768 bytes" */
     MOST_EDGE_LINES = 4096 /* C-11: "may be 1 to 4,096" */
 };
 
 /* Places of the words in a record and in an answer, and the values of the stop. */
-enum { RECORD_N, RECORD_M, RECORD_PLACE, RECORD_VALUE, RECORD_SLOTS = 5, RECORD_SECONDS = 45 };
+enum { RECORD_N, RECORD_M, RECORD_PLACE, RECORD_VALUE, RECORD_SLOTS = 5, RECORD_SECONDS = 45,
+       RECORD_END = 465 };
 enum { ANSWER_STOP, ANSWER_PLACE, ANSWER_POINTS, ANSWER_ADDITIONS, ANSWER_FOUND };
 enum { ENDED = 0, FULL = 1, SPENT = 2 };
 
@@ -44,12 +50,18 @@ uint64_t reference_coefficients(uint64_t n, uint64_t m, const uint64_t *table, s
                                 uint64_t *coefficients, size_t coefficients_len);
 
 /* The system at a point, 2 words, high then low; the record of a table of differences at a
- * place, 465 words. */
+ * place, 466 words, with the end 3^n or with any. */
 uint64_t reference_evaluate(uint64_t n, uint64_t m, const uint64_t *coefficients,
                             size_t coefficients_len, uint64_t point,
                             uint64_t *value, size_t value_len);
 uint64_t reference_open(uint64_t n, uint64_t m, const uint64_t *table, size_t table_len,
                         uint64_t place, uint64_t *record, size_t record_len);
+uint64_t reference_open_range(uint64_t n, uint64_t m, const uint64_t *table, size_t table_len,
+                              uint64_t place, uint64_t end, uint64_t *record, size_t record_len);
+
+/* A part of a list that is cut: the number of its first entry, and how many it has. */
+uint64_t reference_part(uint64_t list_entries, uint64_t cut, uint64_t side, uint64_t *part,
+                        size_t part_len);
 
 /* One call of the search: on words, and as the harness sees it, on bytes. */
 uint64_t reference_search_words(uint64_t n, uint64_t m, const uint64_t *table, size_t table_len,
