@@ -1,5 +1,6 @@
 /* The C interface held to plain arithmetic: random systems of both degrees, every function, every refusal, lists longer
-   than a chunk. Nothing here uses words or differences: a system is its signed rows, a point its digits. */
+   than a chunk, ranges and two runners. Nothing here uses words or differences: a system is its signed rows, a point its
+   digits. */
 #include "vayudrit.h"
 
 #include <stdio.h>
@@ -112,8 +113,21 @@ static uint64_t opened[VAYUDRIT_RECORD_WORDS];
 static uint8_t table[8 * VAYUDRIT_MAX_TABLE3_WORDS + 16], record[VAYUDRIT_RECORD_BYTES + 8], answer[VAYUDRIT_ANSWER_BYTES + 8];
 static uint8_t list[8 * 20000], old_list[8 * 20000], old_record[VAYUDRIT_RECORD_BYTES + 8], old_answer[VAYUDRIT_ANSWER_BYTES + 8];
 
-/* Makes the tables of the system in `rows` and opens it at a place. */
-static void prepare(unsigned n, unsigned m, uint64_t place, long run)
+/* Opens a range into `opened`, and by the other function where it ends with the walk. */
+static void open_at(unsigned n, unsigned m, uint64_t place, uint64_t end, long run)
+{
+    uint64_t whole[VAYUDRIT_RECORD_WORDS];
+    if (vayudrit_open_range(n, m, differences, table_words(n), place, end, opened, VAYUDRIT_RECORD_WORDS) != 0
+        || vayudrit_open(n, m, differences, table_words(n), place, whole, VAYUDRIT_RECORD_WORDS) != 0)
+        fault("open", run);
+    if (opened[VAYUDRIT_RECORD_PLACE] != place || opened[VAYUDRIT_RECORD_END] != end
+        || whole[VAYUDRIT_RECORD_END] != power3(n)
+        || memcmp(opened, whole, 8 * VAYUDRIT_RECORD_END) != 0)
+        fault("a record with another end", run);
+}
+
+/* Makes the tables of the system in `rows` and opens a range. */
+static void prepare_range(unsigned n, unsigned m, uint64_t place, uint64_t end, long run)
 {
     size_t words = table_words(n);
     if (vayudrit_pack(n, m, rows, m * monomials(n), coefficients, words) != 0)
@@ -124,19 +138,25 @@ static void prepare(unsigned n, unsigned m, uint64_t place, long run)
         fault("differences", run);
     if (vayudrit_coefficients(n, m, differences, words, back, words) != 0 || memcmp(back, coefficients, 8 * words) != 0)
         fault("coefficients", run);
-    if (vayudrit_open(n, m, differences, words, place, opened, VAYUDRIT_RECORD_WORDS) != 0)
-        fault("open", run);
+    open_at(n, m, place, end, run);
     for (size_t i = 0; i < words; i++)
         put(table, i, differences[i]);
     for (size_t i = 0; i < VAYUDRIT_RECORD_WORDS; i++)
         put(record, i, opened[i]);
 }
 
+/* The same up to the end of the walk. */
+static void prepare(unsigned n, unsigned m, uint64_t place, long run)
+{
+    prepare_range(n, m, place, power3(n), run);
+}
+
 /* One call, and the same by plain arithmetic; what the call left of the list and the record is compared whole. */
 static uint64_t call(unsigned n, unsigned m, uint64_t budget, size_t entries, long run)
 {
     size_t words = table_words(n);
-    uint64_t end = power3(n), place = get(record, 2), points = 0, additions = 0, found = 0, stop = 2;
+    uint64_t end = get(record, VAYUDRIT_RECORD_END), place = get(record, VAYUDRIT_RECORD_PLACE);
+    uint64_t points = 0, additions = 0, found = 0, stop = 2;
     for (size_t i = 0; i < 8 * entries + 8; i++)
         list[i] = old_list[i] = (uint8_t)rnd();
     uint64_t c = vayudrit_search(n, m, table, 8 * words, record, VAYUDRIT_RECORD_BYTES, budget, list, 8 * entries, answer,
@@ -165,8 +185,7 @@ static uint64_t call(unsigned n, unsigned m, uint64_t budget, size_t entries, lo
         fault("answer", run);
     if (memcmp(list, old_list, 8 * entries + 8) != 0)
         fault("list", run);
-    if (vayudrit_open(n, m, differences, words, place, opened, VAYUDRIT_RECORD_WORDS) != 0)
-        fault("open after", run);
+    open_at(n, m, place, end, run);
     for (size_t i = 0; i < VAYUDRIT_RECORD_WORDS; i++)
         if (get(record, i) != opened[i])
             fault("record", run);
@@ -182,7 +201,7 @@ static void systems(void)
         for (size_t i = 0; i < m * monomials(n); i++)
             rows[i] = run % 7 == 0 ? 0 : (int8_t)rnd();
         uint64_t start = run % 3 == 0 ? 0 : rnd() % (power3(n) + 1), stop;
-        prepare(n, m, start, run);
+        prepare_range(n, m, start, run % 2 == 0 ? power3(n) : start + rnd() % (power3(n) - start + 1), run);
         uint64_t x = rnd() % power3(n), v[2];
         if (vayudrit_evaluate(n, m, coefficients, table_words(n), x, v, 2) != 0)
             fault("evaluate", run);
@@ -352,6 +371,187 @@ static void long_list(void)
         fault("ended, full and spent at once", -4);
 }
 
+/* ---- ranges and runners ---- */
+
+/* What calls gave together: the points in order, and the sums of points, additions and found. */
+struct total {
+    uint64_t list[800], points, additions, found;
+};
+
+static void add_call(struct total *t, const uint8_t *entries)
+{
+    for (size_t i = 0; i < get(answer, 4); i++)
+        t->list[t->found++] = get(entries, i);
+    t->points += get(answer, 2);
+    t->additions += get(answer, 3);
+}
+
+/* A range by itself, in one call or in many. */
+static void add_range(unsigned n, unsigned m, uint64_t from, uint64_t to, int many, struct total *t, long run)
+{
+    uint64_t stop;
+    open_at(n, m, from, to, run);
+    for (size_t i = 0; i < VAYUDRIT_RECORD_WORDS; i++)
+        put(record, i, opened[i]);
+    do {
+        uint64_t before = get(record, VAYUDRIT_RECORD_PLACE);
+        stop = call(n, m, many ? 1 + rnd() % 40 : UINT64_MAX, many ? 1 + rnd() % 30 : 800, run);
+        if (before < to && get(answer, 2) == 0)
+            fault("a call before the end that examines no point", run);
+        add_call(t, list);
+    } while (stop != VAYUDRIT_ENDED);
+    if (get(answer, 1) != to || get(record, VAYUDRIT_RECORD_PLACE) != to)
+        fault("the place of a range that ended", run);
+}
+
+/* Two ranges that meet give what one whole walk gives, wherever they meet: n = 1 to 6 whole, both degrees. */
+static void joined_ranges(void)
+{
+    static struct total whole, joined;
+    long cuts = 0;
+    for (degree = 2; degree <= 3; degree++)
+        for (unsigned n = 1; n <= 6; n++)
+            for (unsigned m = 1; m <= 3; m++) {
+                random_system(n, m);
+                prepare(n, m, 0, n);
+                memset(&whole, 0, sizeof whole);
+                add_range(n, m, 0, power3(n), 0, &whole, n);
+                for (uint64_t cut = 0; cut <= power3(n); cut++, cuts++) {
+                    memset(&joined, 0, sizeof joined);
+                    add_range(n, m, 0, cut, cut % 3 == m % 3, &joined, (long)cut);
+                    add_range(n, m, cut, power3(n), cut % 3 == m % 3, &joined, (long)cut);
+                    if (memcmp(&joined, &whole, sizeof whole) != 0)
+                        fault("two ranges joined", (long)cut);
+                }
+            }
+    degree = 2;
+    printf("%ld walks cut in two\n", cuts);
+}
+
+/* A range that begins where it ends: every place. */
+static void empty_ranges(void)
+{
+    for (degree = 2; degree <= 3; degree++)
+        for (unsigned n = 1; n <= 5; n++)
+            for (uint64_t place = 0; place <= power3(n); place++) {
+                random_system(n, 2);
+                prepare_range(n, 2, place, place, (long)place);
+                if (call(n, 2, 1, 1, (long)place) != VAYUDRIT_ENDED || get(answer, 1) != place || get(answer, 2) != 0)
+                    fault("an empty range", (long)place);
+            }
+    degree = 2;
+}
+
+/* One of two runners: its record, its answer, its part of the list, and what its calls gave. */
+struct runner {
+    uint8_t record[VAYUDRIT_RECORD_BYTES], answer[VAYUDRIT_ANSWER_BYTES];
+    uint64_t part[2], budgets, stop;
+    struct total total;
+};
+
+/* The runner's next budget: a row of its own, whatever the other runner does. */
+static uint64_t next_budget(struct runner *r)
+{
+    r->budgets = r->budgets * 6364136223846793005u + 1442695040888963407u;
+    return (r->budgets >> 60) % 8 == 0 ? UINT64_MAX : 1 + (r->budgets >> 33) % 50;
+}
+
+static void start_runner(struct runner *r, unsigned n, unsigned m, uint64_t from, uint64_t to, uint64_t budgets, long run)
+{
+    memset(r, 0, sizeof *r);
+    open_at(n, m, from, to, run);
+    for (size_t i = 0; i < VAYUDRIT_RECORD_WORDS; i++)
+        put(r->record, i, opened[i]);
+    r->budgets = budgets;
+    r->stop = VAYUDRIT_SPENT;
+}
+
+/* A call of a runner on the buffer that both share: nothing outside of its part may change. */
+static void turn(struct runner *r, unsigned n, unsigned m, uint8_t *shared, size_t entries, long run)
+{
+    size_t first = 8 * (size_t)r->part[0], bytes = 8 * (size_t)r->part[1];
+    memcpy(old_list, shared, 8 * entries);
+    if (vayudrit_search(n, m, table, 8 * table_words(n), r->record, VAYUDRIT_RECORD_BYTES, next_budget(r), shared + first, bytes,
+                        r->answer, VAYUDRIT_ANSWER_BYTES) != 0)
+        fault("a runner's call", run);
+    if (memcmp(shared, old_list, first) != 0 || memcmp(shared + first + bytes, old_list + first + bytes, 8 * entries - first - bytes) != 0)
+        fault("the other runner's part", run);
+    memcpy(answer, r->answer, VAYUDRIT_ANSWER_BYTES);
+    add_call(&r->total, shared + first);
+    r->stop = get(r->answer, 0);
+}
+
+/* Whether two runs of one runner came to the same: record, answer, list part and all that was found. */
+static int same_runner(const struct runner *a, const uint8_t *a_list, const struct runner *b, const uint8_t *b_list)
+{
+    return memcmp(a, b, sizeof *a) == 0
+        && memcmp(a_list + 8 * a->part[0], b_list + 8 * b->part[0], 8 * (size_t)a->part[1]) == 0;
+}
+
+/* Two runners on one table and one cut list, their calls in any order, against each alone; and joined against the whole. */
+static void two_runners(void)
+{
+    static uint8_t shared[8 * 100], alone_list[2][8 * 100];
+    static struct runner two[2], alone[2];
+    static struct total whole;
+    long turns = 0;
+    for (long run = 0; run < 900; run++) {
+        unsigned n = 1 + (unsigned)(run % 6), m = 1 + (unsigned)(rnd() % 3);
+        uint64_t middle = rnd() % (power3(n) + 1), entries = 2 + rnd() % 98, cut = 1 + rnd() % (entries - 1);
+        uint64_t budgets[2] = {rnd(), rnd()}, order = rnd() % 4;
+        degree = run % 2 == 0 ? 2 : 3;
+        random_system(n, m);
+        prepare(n, m, 0, run);
+        memset(&whole, 0, sizeof whole);
+        add_range(n, m, 0, power3(n), 0, &whole, run);
+        for (size_t i = 0; i < 8 * entries; i++)
+            shared[i] = alone_list[0][i] = alone_list[1][i] = (uint8_t)rnd();
+        for (unsigned k = 0; k < 2; k++) {
+            start_runner(&two[k], n, m, k == 0 ? 0 : middle, k == 0 ? middle : power3(n), budgets[k], run);
+            if (vayudrit_part(entries, cut, k, two[k].part, VAYUDRIT_PART_WORDS) != 0)
+                fault("a runner's part", run);
+            alone[k] = two[k];
+            while (alone[k].stop != VAYUDRIT_ENDED)
+                turn(&alone[k], n, m, alone_list[k], entries, run);
+        }
+        while (two[0].stop != VAYUDRIT_ENDED || two[1].stop != VAYUDRIT_ENDED) {
+            unsigned k = order == 0 ? 0 : order == 1 ? 1 : order == 2 ? (unsigned)(turns % 2) : (unsigned)(rnd() % 2);
+            if (two[k].stop == VAYUDRIT_ENDED)
+                k = 1 - k;
+            turn(&two[k], n, m, shared, entries, run);
+            turns++;
+        }
+        for (unsigned k = 0; k < 2; k++)
+            if (!same_runner(&two[k], shared, &alone[k], alone_list[k]))
+                fault("a runner beside another", run);
+        memcpy(two[0].total.list + two[0].total.found, two[1].total.list, 8 * (size_t)two[1].total.found);
+        two[0].total.found += two[1].total.found;
+        two[0].total.points += two[1].total.points;
+        two[0].total.additions += two[1].total.additions;
+        if (memcmp(&two[0].total, &whole, sizeof whole) != 0)
+            fault("two runners joined", run);
+    }
+    degree = 2;
+    printf("%ld turns of two runners\n", turns);
+}
+
+/* Ranges at n = 20, about the powers of three and at both ends. */
+static void far_ranges(void)
+{
+    uint64_t end = power3(20), near[] = {0, 26, power3(10), power3(19), 2 * power3(19) - 40, end / 2, end - 120};
+    for (unsigned k = 0; k < sizeof near / sizeof near[0]; k++)
+        for (degree = 2; degree <= 3; degree++) {
+            random_system(20, 2);
+            prepare_range(20, 2, near[k], near[k] + 60 + rnd() % 60, (long)k);
+            while (call(20, 2, 1 + rnd() % 50, 1 + rnd() % 20, (long)k) != VAYUDRIT_ENDED)
+                continue;
+            prepare_range(20, 2, near[k], near[k] + 81, (long)k);
+            if (call(20, 2, 81, 81, (long)k) != VAYUDRIT_ENDED)
+                fault("a far range, ended and spent at once", (long)k);
+        }
+    degree = 2;
+}
+
 static void numbers(void)
 {
     for (unsigned n = 1; n <= 7; n++)
@@ -384,10 +584,12 @@ static void expect(const char *what, uint64_t got, uint64_t wanted)
     }
 }
 
-/* Whether the record is what opening at its place gives: another place may have the same value and slots. */
+/* Whether the record is what opening at its place with its end gives: another place may have the same value and slots, and
+   an end between the place and 3^n makes another range. */
 static int legal_record(unsigned n, unsigned m)
 {
-    if (vayudrit_open(n, m, differences, table_words(n), get(record, 2), opened, VAYUDRIT_RECORD_WORDS) != 0)
+    if (vayudrit_open_range(n, m, differences, table_words(n), get(record, VAYUDRIT_RECORD_PLACE),
+                            get(record, VAYUDRIT_RECORD_END), opened, VAYUDRIT_RECORD_WORDS) != 0)
         return 0;
     for (size_t i = 0; i < VAYUDRIT_RECORD_WORDS; i++)
         if (get(record, i) != opened[i])
@@ -396,6 +598,86 @@ static int legal_record(unsigned n, unsigned m)
 }
 
 #define SEARCH(n, m, tb, rb, b, lb, ab) vayudrit_search(n, m, table, tb, record, rb, b, list, lb, answer, ab)
+
+/* Every end in a record: from the place to 3^n it is another range's record, and any other is refused. */
+static void end_refusals(unsigned n, unsigned m, uint64_t place)
+{
+    uint64_t end = power3(n);
+    prepare(n, m, place, -8);
+    for (uint64_t e = 0; e <= end + 3; e++) {
+        put(record, VAYUDRIT_RECORD_END, e == end + 3 ? UINT64_MAX : e == end + 2 ? end + ((uint64_t)1 << 32) : e);
+        memcpy(old_record, record, sizeof record);
+        memcpy(old_list, list, 800);
+        memcpy(old_answer, answer, sizeof answer);
+        if (e < place || e > end) {
+            expect("a record's end", SEARCH(n, m, 8 * table_words(n), 3728, 1, 8, 40), 5);
+            expect("a record's end, budget 0, no list", SEARCH(n, m, 8 * table_words(n), 3728, 0, 0, 40), 5);
+        } else {
+            expect("budget 0 in a range", SEARCH(n, m, 8 * table_words(n), 3728, 0, 8, 40), 6);
+            expect("no list in a range", SEARCH(n, m, 8 * table_words(n), 3728, 1, 0, 40), 7);
+            if (call(n, m, UINT64_MAX, 100, (long)e) != VAYUDRIT_ENDED || get(answer, 1) != e || get(answer, 2) != e - place)
+                fault("another end in a record", (long)e);
+            memcpy(record, old_record, sizeof record);
+        }
+    }
+}
+
+/* Openings with a range, good and bad; every cut of a small list, and cuts beyond. */
+static void range_refusals(void)
+{
+    uint64_t w[VAYUDRIT_RECORD_WORDS], old[VAYUDRIT_RECORD_WORDS], part[3];
+    degree = 2;
+    memset(differences, 0, sizeof differences);
+    random_system(2, 3);
+    prepare(2, 3, 4, -9);
+    memcpy(old_record, record, sizeof record);
+    memcpy(old_list, list, 800);
+    memcpy(old_answer, answer, sizeof answer);
+    for (size_t i = 0; i < VAYUDRIT_RECORD_WORDS; i++)
+        w[i] = old[i] = rnd();
+#define RANGE(n, m, words, p, e, rw) vayudrit_open_range(n, m, differences, words, p, e, w, rw)
+    for (uint64_t p = 0; p <= 11; p++)
+        for (uint64_t e = 0; e <= 11; e++)
+            if (p > e || e > 9)
+                expect("open range 4", RANGE(2, 3, 12, p, e, 466), 4);
+    expect("open range 4, the largest end", RANGE(2, 3, 12, 0, UINT64_MAX, 466), 4);
+    expect("open range 4, the largest place", RANGE(2, 3, 12, UINT64_MAX, UINT64_MAX, 466), 4);
+    expect("open range 4, past 32 bits", RANGE(20, 3, 462, 0, ((uint64_t)1 << 32) + 5, 466), 4);
+    expect("open range 1", RANGE(21, 3, 12, 5, 4, 465), 1);
+    expect("open range 1, m", RANGE(2, 65, 12, 5, 4, 465), 1);
+    expect("open range 2, a table of neither degree", RANGE(2, 3, 14, 5, 4, 466), 2);
+    expect("open range 2, a record without an end", RANGE(2, 3, 12, 5, 4, 465), 2);
+    expect("open range 2, a longer record", RANGE(2, 3, 12, 5, 4, 467), 2);
+    differences[2] |= 8;
+    expect("open range 3", RANGE(2, 3, 12, 5, 4, 466), 3 + 256);
+    differences[2] &= ~(uint64_t)8;
+#undef RANGE
+    if (memcmp(w, old, sizeof w) != 0)
+        fault("what a refused opening left", -9);
+    for (uint64_t entries = 0; entries <= 4; entries++)
+        for (uint64_t cut = 0; cut <= 6; cut++)
+            for (uint64_t side = 0; side <= 2; side++) {
+                uint64_t first = side == 0 ? 0 : cut, count = side == 0 ? cut : entries - cut;
+                uint64_t wanted = cut > entries ? 2 : count == 0 ? 7 : 0;
+                part[0] = part[1] = part[2] = 77;
+                expect("part", vayudrit_part(entries, cut, side, part, 2), wanted);
+                if (part[0] != (wanted == 0 ? first : 77) || part[1] != (wanted == 0 ? count : 77) || part[2] != 77)
+                    fault("a part", (long)cut);
+                expect("part 2, one word", vayudrit_part(entries, cut, side, part, 1), 2);
+                expect("part 2, three words", vayudrit_part(entries, cut, side, part, 3), 2);
+            }
+    expect("the largest cut", vayudrit_part(UINT64_MAX - 1, UINT64_MAX, 0, part, 2), 2);
+    expect("the largest list", vayudrit_part(UINT64_MAX, UINT64_MAX - 1, UINT64_MAX, part, 2), 0);
+    if (part[0] != UINT64_MAX - 1 || part[1] != 1)
+        fault("a part of the largest list", -9);
+    for (degree = 2; degree <= 3; degree++)
+        for (unsigned n = 1; n <= 3; n++) {
+            random_system(n, 3);
+            for (uint64_t place = 0; place <= power3(n); place += 1 + n / 3)
+                end_refusals(n, 3, place);
+        }
+    degree = 2;
+}
 
 /* The same of a cubic table: each entry illegal, each bit of the record, and a record of the other degree. */
 static void cubic_refusals(void)
@@ -407,27 +689,27 @@ static void cubic_refusals(void)
     memcpy(old_record, record, sizeof record);
     for (size_t k = 0; k < VAYUDRIT_MONOMIALS3(3); k++) {
         table[16 * k + 8] ^= 4;
-        expect("a low bit alone in a cubic table", SEARCH(3, 2, 272, 3720, 1, 8, 40), 3 + 256 * k);
-        expect("the same, and an answer of another length", SEARCH(3, 2, 272, 3720, 1, 8, 48), 2);
+        expect("a low bit alone in a cubic table", SEARCH(3, 2, 272, 3728, 1, 8, 40), 3 + 256 * k);
+        expect("the same, and an answer of another length", SEARCH(3, 2, 272, 3728, 1, 8, 48), 2);
         table[16 * k + 8] ^= 4;
     }
-    expect("a cubic table's record with the quadratic part of the table", SEARCH(3, 2, 160, 3720, 1, 8, 40), 5);
+    expect("a cubic table's record with the quadratic part of the table", SEARCH(3, 2, 160, 3728, 1, 8, 40), 5);
     for (size_t i = 0; i < 8 * VAYUDRIT_RECORD_WORDS; i++) {
         record[i] ^= 1;
         memcpy(old_record, record, sizeof record);
         if (!legal_record(3, 2))
-            expect("one bit of a cubic record", SEARCH(3, 2, 272, 3720, 1, 8, 40), 5);
+            expect("one bit of a cubic record", SEARCH(3, 2, 272, 3728, 1, 8, 40), 5);
         record[i] ^= 1;
     }
     memcpy(seconds, record, sizeof seconds);
-    memset(record + 360, 0, 3360);
+    memset(record + 360, 0, 8 * VAYUDRIT_RECORD_END - 360);
     memcpy(old_record, record, sizeof record);
     if (memcmp(seconds, record, sizeof seconds) != 0)
-        expect("a cubic record without its second slots", SEARCH(3, 2, 272, 3720, 1, 8, 40), 5);
+        expect("a cubic record without its second slots", SEARCH(3, 2, 272, 3728, 1, 8, 40), 5);
     memcpy(record, seconds, sizeof seconds);
     memcpy(old_record, record, sizeof record);
-    expect("budget 0 on a cubic table", SEARCH(3, 2, 272, 3720, 0, 8, 40), 6);
-    expect("no list on a cubic table", SEARCH(3, 2, 272, 3720, 1, 0, 40), 7);
+    expect("budget 0 on a cubic table", SEARCH(3, 2, 272, 3728, 0, 8, 40), 6);
+    expect("no list on a cubic table", SEARCH(3, 2, 272, 3728, 1, 0, 40), 7);
     degree = 2;
 }
 
@@ -438,26 +720,27 @@ static void search_refusals(void)
         const char *what;
         uint64_t n, m, table, record, budget, list, answer, refusal; /* lengths in bytes */
     } calls[] = {
-        {"n = 0", 0, 1, 96, 3720, 1, 8, 40, 1},
-        {"n = 21", 21, 1, 96, 3720, 1, 8, 40, 1},
-        {"n = 2^32 + 2", 4294967298u, 1, 96, 3720, 1, 8, 40, 1},
-        {"m = 0", 2, 0, 96, 3720, 1, 8, 40, 1},
+        {"n = 0", 0, 1, 96, 3728, 1, 8, 40, 1},
+        {"n = 21", 21, 1, 96, 3728, 1, 8, 40, 1},
+        {"n = 2^32 + 2", 4294967298u, 1, 96, 3728, 1, 8, 40, 1},
+        {"m = 0", 2, 0, 96, 3728, 1, 8, 40, 1},
         {"m = 65, and all lengths wrong", 2, 65, 1, 1, 0, 0, 1, 1},
-        {"table one word short", 2, 1, 88, 3720, 1, 8, 40, 2},
-        {"table one byte long", 2, 1, 97, 3720, 1, 8, 40, 2},
-        {"table of neither degree", 2, 1, 112, 3720, 1, 8, 40, 2},
-        {"cubic table one byte long", 2, 1, 129, 3720, 1, 8, 40, 2},
-        {"cubic table of another n", 2, 1, 272, 3720, 1, 8, 40, 2},
-        {"record short", 2, 1, 96, 3719, 1, 8, 40, 2},
+        {"table one word short", 2, 1, 88, 3728, 1, 8, 40, 2},
+        {"table one byte long", 2, 1, 97, 3728, 1, 8, 40, 2},
+        {"table of neither degree", 2, 1, 112, 3728, 1, 8, 40, 2},
+        {"cubic table one byte long", 2, 1, 129, 3728, 1, 8, 40, 2},
+        {"cubic table of another n", 2, 1, 272, 3728, 1, 8, 40, 2},
+        {"record short", 2, 1, 96, 3727, 1, 8, 40, 2},
         {"record without second slots", 2, 1, 96, 360, 1, 8, 40, 2},
-        {"record long", 2, 1, 96, 3728, 1, 8, 40, 2},
-        {"list of 9 bytes", 2, 1, 96, 3720, 1, 9, 40, 2},
-        {"answer long", 2, 1, 96, 3720, 1, 8, 48, 2},
-        {"answer short, budget 0, no list", 2, 1, 96, 3720, 0, 0, 32, 2},
-        {"no list", 2, 1, 96, 3720, 1, 0, 40, 7},
-        {"budget 0, no list", 2, 1, 96, 3720, 0, 0, 40, 6},
-        {"n is not the record's", 1, 1, 48, 3720, 1, 8, 40, 5},
-        {"m is not the record's, budget 0", 2, 2, 96, 3720, 0, 8, 40, 5},
+        {"record without an end", 2, 1, 96, 3720, 1, 8, 40, 2},
+        {"record long", 2, 1, 96, 3736, 1, 8, 40, 2},
+        {"list of 9 bytes", 2, 1, 96, 3728, 1, 9, 40, 2},
+        {"answer long", 2, 1, 96, 3728, 1, 8, 48, 2},
+        {"answer short, budget 0, no list", 2, 1, 96, 3728, 0, 0, 32, 2},
+        {"no list", 2, 1, 96, 3728, 1, 0, 40, 7},
+        {"budget 0, no list", 2, 1, 96, 3728, 0, 0, 40, 6},
+        {"n is not the record's", 1, 1, 48, 3728, 1, 8, 40, 5},
+        {"m is not the record's, budget 0", 2, 2, 96, 3728, 0, 8, 40, 5},
     };
     memcpy(rows, edge, sizeof edge);
     prepare(2, 1, 4, -5);
@@ -470,9 +753,9 @@ static void search_refusals(void)
                calls[k].refusal);
     for (size_t k = 0; k < 6; k++) {
         table[16 * k + 8] ^= 2;
-        expect("a low bit alone", SEARCH(2, 1, 96, 3720, 1, 8, 40), 3 + 256 * k);
+        expect("a low bit alone", SEARCH(2, 1, 96, 3728, 1, 8, 40), 3 + 256 * k);
         table[80] ^= 4;
-        expect("a low bit alone, and a high bit above m in the last entry", SEARCH(2, 1, 96, 3720, 1, 8, 40), 3 + 256 * k);
+        expect("a low bit alone, and a high bit above m in the last entry", SEARCH(2, 1, 96, 3728, 1, 8, 40), 3 + 256 * k);
         table[80] ^= 4;
         table[16 * k + 8] ^= 2;
     }
@@ -483,7 +766,7 @@ static void search_refusals(void)
         record[i] ^= 1;
         memcpy(old_record, record, sizeof record);
         if (!legal_record(2, 1))
-            expect("one bit of the record", SEARCH(2, 1, 96, 3720, 1, 8, 40), 5);
+            expect("one bit of the record", SEARCH(2, 1, 96, 3728, 1, 8, 40), 5);
         record[i] ^= 1;
     }
     memcpy(old_record, record, sizeof record);
@@ -520,7 +803,7 @@ static void other_refusals(void)
     expect("check 3, last entry", vayudrit_check(2, 1, differences, 12), 3 + 256 * 5);
     expect("differences 3, last entry", vayudrit_differences(2, 1, differences, 12, w, 12), 3 + 256 * 5);
     expect("coefficients 3, last entry", vayudrit_coefficients(2, 1, differences, 12, w, 12), 3 + 256 * 5);
-    expect("open 3, last entry", vayudrit_open(2, 1, differences, 12, 10, w, 465), 3 + 256 * 5);
+    expect("open 3, last entry", vayudrit_open(2, 1, differences, 12, 10, w, 466), 3 + 256 * 5);
     expect("evaluate 3, last entry", vayudrit_evaluate(2, 1, differences, 12, 9, w, 2), 3 + 256 * 5);
     expect("the number of a refusal", VAYUDRIT_NUMBER(vayudrit_check(2, 1, differences, 12)), VAYUDRIT_REFUSED_PAIR);
     expect("the entry of a refusal", VAYUDRIT_ENTRY(vayudrit_check(2, 1, differences, 12)), 5);
@@ -529,12 +812,12 @@ static void other_refusals(void)
     expect("differences 3", vayudrit_differences(2, 1, differences, 12, w, 12), 3);
     expect("differences 2 before 3", vayudrit_differences(2, 1, differences, 12, w, 11), 2);
     expect("coefficients 3", vayudrit_coefficients(2, 1, differences, 12, w, 12), 3);
-    expect("open 2 before 3", vayudrit_open(2, 1, differences, 12, 0, w, 464), 2);
-    expect("open 3", vayudrit_open(2, 1, differences, 12, 10, w, 465), 3);
+    expect("open 2 before 3", vayudrit_open(2, 1, differences, 12, 0, w, 465), 2);
+    expect("open 3", vayudrit_open(2, 1, differences, 12, 10, w, 466), 3);
     expect("evaluate 2 before 3", vayudrit_evaluate(2, 1, differences, 12, 0, w, 3), 2);
     expect("evaluate 3", vayudrit_evaluate(2, 1, differences, 12, 9, w, 2), 3);
     differences[0] &= ~(uint64_t)4;
-    expect("open 4", vayudrit_open(2, 1, differences, 12, 10, w, 465), 4);
+    expect("open 4", vayudrit_open(2, 1, differences, 12, 10, w, 466), 4);
     expect("evaluate 4", vayudrit_evaluate(2, 1, differences, 12, 9, w, 2), 4);
     expect("point 1", vayudrit_point(0, 0, w, 2), 1);
     expect("point 2 before 4", vayudrit_point(2, 9, w, 2), 2);
@@ -547,7 +830,7 @@ static void other_refusals(void)
     expect("unbalanced 4, far", vayudrit_unbalanced(20, INT64_MIN, w, 1), 4);
     if (memcmp(w, old, sizeof w) != 0 || b != 77)
         fault("what a refusal left", -6);
-    expect("open at the end", vayudrit_open(2, 1, differences, 12, 9, opened, 465), 0);
+    expect("open at the end", vayudrit_open(2, 1, differences, 12, 9, opened, 466), 0);
     expect("the lower end", vayudrit_unbalanced(20, -1743392200, w, 1), 0);
 }
 
@@ -561,8 +844,13 @@ int main(void)
     one_unknown();
     by_hand();
     long_list();
+    joined_ranges();
+    empty_ranges();
+    two_runners();
+    far_ranges();
     numbers();
     search_refusals();
+    range_refusals();
     other_refusals();
     printf("%d faults\n", faults);
     return faults != 0;

@@ -24,8 +24,8 @@ enum { ROOM = 1 << 17, GUARD = 64, MOST_LENT = 4, LONG_LIST = 7000, ANSWER_SECON
 
 /* ---- operations and calls ---- */
 
-enum operation { SEARCH, PACK, CHECK, DIFFERENCES, COEFFICIENTS, EVALUATE, OPEN, POINT, PLACE,
-                 BALANCED, UNBALANCED, OPERATIONS };
+enum operation { SEARCH, RUNNER, PACK, CHECK, DIFFERENCES, COEFFICIENTS, EVALUATE, OPEN, RANGE, POINT,
+                 PLACE, BALANCED, UNBALANCED, PART, OPERATIONS };
 enum role { NONE, TABLE, ROWS, RECORD, LIST, ANSWER, VALUE, ONE };
 
 /* The buffers of an operation: the name, what it holds, and the size of an element. */
@@ -34,29 +34,35 @@ static const struct shape {
     struct lent { const char *name; enum role role; size_t width; } lent[MOST_LENT];
 } shapes[OPERATIONS] = {
     {"search", {{"table", TABLE, 1}, {"record", RECORD, 1}, {"list", LIST, 1}, {"answer", ANSWER, 1}}},
+    {"runner", {{"table", TABLE, 1}, {"record", RECORD, 1}, {"list", LIST, 1}, {"answer", ANSWER, 1}}},
     {"pack", {{"rows", ROWS, 1}, {"table", TABLE, 8}}},
     {"check", {{"table", TABLE, 8}}},
     {"differences", {{"coefficients", TABLE, 8}, {"table", TABLE, 8}}},
     {"coefficients", {{"table", TABLE, 8}, {"coefficients", TABLE, 8}}},
     {"evaluate", {{"coefficients", TABLE, 8}, {"value", VALUE, 8}}},
     {"open", {{"table", TABLE, 8}, {"record", RECORD, 8}}},
+    {"open_range", {{"table", TABLE, 8}, {"record", RECORD, 8}}},
     {"point", {{"point", ONE, 8}}},
     {"place", {{"place", ONE, 8}}},
     {"balanced", {{"number", ONE, 8}}},
     {"unbalanced", {{"point", ONE, 8}}},
+    {"part", {{"part", VALUE, 8}}},
 };
 
 /* How buffers are lent: between guard bytes (byte buffers moved by shift), ending at a page end
  * before an inaccessible page, or beginning behind one. */
 enum memory { BYTES, PAGE_END, PAGE_START };
 
-/* One input. The number is the budget, place, point or balanced number; lengths count elements;
- * words stand in the bytes lowest first. A search with steps is searched on to the end by calls
- * whose budgets and list lengths are drawn from that seed, and their joined results are held
- * against one search of the reference. */
+/* One input. The number is the budget, place, point or balanced number, the other number the end of
+ * a range or the cut of a list; of a part n is the list's entries. Lengths count elements; words
+ * stand in the bytes lowest first. A runner's call is a search that gets one side of the lent list,
+ * cut where the other number says. A search or runner with steps is searched on to the end by calls
+ * that are drawn from that seed, and their joined results are held against one search of the
+ * reference: of a runner these are the calls of two, each with a part of the range and of the
+ * list. */
 struct call {
     enum operation op;
-    uint64_t n, m, number, steps;
+    uint64_t n, m, number, other, side, steps;
     unsigned memory, shift;
     size_t len[MOST_LENT];
     uint8_t bytes[MOST_LENT][ROOM];
@@ -96,14 +102,22 @@ static void set_word(struct call *c, unsigned i, size_t k, uint64_t word) {
 #define PERFORM(who) \
 static uint64_t perform_##who(const struct call *c, void *const b[MOST_LENT]) { \
     const size_t *l = c->len; \
+    uint64_t part[PART_WORDS], refusal; \
     switch (c->op) { \
     case SEARCH: return who##_search(c->n, c->m, b[0], l[0], b[1], l[1], c->number, b[2], l[2], b[3], l[3]); \
+    case RUNNER: \
+        refusal = who##_part(l[2] / 8, c->other, c->side, part, PART_WORDS); \
+        return refusal != 0 ? refusal \
+            : who##_search(c->n, c->m, b[0], l[0], b[1], l[1], c->number, \
+                           (uint8_t *)b[2] + 8 * part[0], 8 * (size_t)part[1], b[3], l[3]); \
+    case PART: return who##_part(c->n, c->other, c->side, b[0], l[0]); \
     case PACK: return who##_pack(c->n, c->m, b[0], l[0], b[1], l[1]); \
     case CHECK: return who##_check(c->n, c->m, b[0], l[0]); \
     case DIFFERENCES: return who##_differences(c->n, c->m, b[0], l[0], b[1], l[1]); \
     case COEFFICIENTS: return who##_coefficients(c->n, c->m, b[0], l[0], b[1], l[1]); \
     case EVALUATE: return who##_evaluate(c->n, c->m, b[0], l[0], c->number, b[1], l[1]); \
     case OPEN: return who##_open(c->n, c->m, b[0], l[0], c->number, b[1], l[1]); \
+    case RANGE: return who##_open_range(c->n, c->m, b[0], l[0], c->number, c->other, b[1], l[1]); \
     case POINT: return who##_point(c->n, c->number, b[0], l[0]); \
     case PLACE: return who##_place(c->n, c->number, b[0], l[0]); \
     case BALANCED: return who##_balanced(c->n, c->number, b[0], l[0]); \
@@ -117,11 +131,12 @@ PERFORM(reference)
 /* ---- reports and cases ---- */
 
 static const struct call *current; /* being performed */
-static unsigned long agreed, cubic, walks, results[OPERATIONS][8];
+static unsigned long agreed, cubic, walks, pairs, results[OPERATIONS][8];
 
 static void print_case(const struct call *c) {
-    printf("case %s\nn %" PRIu64 "\nm %" PRIu64 "\nnumber %" PRIu64 "\nsteps %" PRIu64
-           "\nmemory %u %u\n", shapes[c->op].name, c->n, c->m, c->number, c->steps, c->memory, c->shift);
+    printf("case %s\nn %" PRIu64 "\nm %" PRIu64 "\nnumber %" PRIu64 "\nother %" PRIu64
+           "\nside %" PRIu64 "\nsteps %" PRIu64 "\nmemory %u %u\n", shapes[c->op].name, c->n, c->m,
+           c->number, c->other, c->side, c->steps, c->memory, c->shift);
     for (unsigned i = 0; i < lent_count(c); i++) {
         printf("lent %s %zu", lent_of(c, i)->name, c->len[i]);
         for (size_t k = 0; k < bytes_lent(c, i); k++)
@@ -156,8 +171,9 @@ static int read_case(FILE *file, struct call *c) {
     char token[100] = "";
     while (strcmp(token, "case") != 0)
         if (fscanf(file, "%99s", token) != 1) return 0;
-    if (fscanf(file, "%99s n %" SCNu64 " m %" SCNu64 " number %" SCNu64 " steps %" SCNu64
-               " memory %u %u", token, &c->n, &c->m, &c->number, &c->steps, &c->memory, &c->shift) != 7)
+    if (fscanf(file, "%99s n %" SCNu64 " m %" SCNu64 " number %" SCNu64 " other %" SCNu64
+               " side %" SCNu64 " steps %" SCNu64 " memory %u %u", token, &c->n, &c->m, &c->number,
+               &c->other, &c->side, &c->steps, &c->memory, &c->shift) != 9)
         fail("a damaged case");
     for (c->op = 0; c->op < OPERATIONS && strcmp(shapes[c->op].name, token) != 0;)
         c->op++;
@@ -276,7 +292,7 @@ static void begin(struct call *c, enum operation op, uint64_t n, uint64_t m, uns
     c->op = op;
     c->n = n;
     c->m = m;
-    c->number = c->steps = 0;
+    c->number = c->other = c->side = c->steps = 0;
     c->memory = (unsigned)ONE_OF(BYTES, BYTES, PAGE_END, PAGE_START);
     c->shift = (unsigned)below(8);
     for (unsigned i = 0; i < lent_count(c); i++) {
@@ -337,13 +353,31 @@ static uint64_t random_number(const struct call *c) {
                   UINT64_MAX, random_word());
 }
 
-/* The record at a place. At n = 1 a table may be read as one of degree 3, too: then second slot
- * (0, 0) is the table's entry. */
-static void put_record(struct call *c, unsigned degree, uint64_t place) {
+/* An end for a place: that of the whole walk, near the place, near the end, or any. */
+static uint64_t random_end(uint64_t n, uint64_t place) {
+    uint64_t last = power_of_three((unsigned)n), left = last - place, near = below(40);
+    uint64_t range = ONE_OF(left, left, 0, 1, near, left - near, left - 1, below(left + 1));
+    return place + (range <= left ? range : left);
+}
+
+/* A place and an end for opening: a range, or just none. */
+static void put_range(struct call *c) {
+    uint64_t last = power_of_three((unsigned)c->n), place = random_place(c->n);
+    c->number = place;
+    c->other = random_end(c->n, place);
+    if (one_in(3)) c->other = ONE_OF(place - 1, place - 2, 0, below(place + 1), last + 1, last + 2,
+                                     last + TWO_32, UINT64_MAX, random_word());
+    if (one_in(8)) c->number = last + ONE_OF(0, 1, 1, 2, TWO_32);
+    if (one_in(16)) c->other = c->number;
+}
+
+/* The record at a place with an end. At n = 1 a table may be read as one of degree 3, too: then
+ * second slot (0, 0) is the table's entry. */
+static void put_record(struct call *c, unsigned degree, uint64_t place, uint64_t end) {
     uint64_t table[2 * MOST_MONOMIALS], record[RECORD_WORDS];
     for (size_t k = 0; k < c->len[0] / 8; k++)
         table[k] = word(c, 0, k);
-    reference_open(c->n, c->m, table, c->len[0] / 8, place, record, RECORD_WORDS);
+    reference_open_range(c->n, c->m, table, c->len[0] / 8, place, end, record, RECORD_WORDS);
     if (c->n == 1 && degree == 3)
         memcpy(record + second_slot(0, 0), table + 2 * product_index(1, 0, 0), 16);
     for (size_t k = 0; k < RECORD_WORDS; k++)
@@ -358,7 +392,7 @@ static void put_list(struct call *c, uint64_t entries) {
 
 /* A budget, without bound only where the end is near, and a list. */
 static void put_limits(struct call *c) {
-    uint64_t end = power_of_three((unsigned)c->n), left = end - word(c, 1, RECORD_PLACE);
+    uint64_t left = word(c, 1, RECORD_END) - word(c, 1, RECORD_PLACE);
     uint64_t most = left < LONG_LIST ? left + 2 : 60;
     c->number = ONE_OF(1, 2, 3, 1 + below(most), most - 2 + (most == 2), most - 1);
     if (left < LONG_LIST && one_in(3))
@@ -366,11 +400,21 @@ static void put_limits(struct call *c) {
     put_list(c, ONE_OF(1, 2, 3, 26, 27, 28, 1 + below(100), 6561, LONG_LIST));
 }
 
-static void begin_search(uint64_t n, unsigned degree) {
-    begin(&now, SEARCH, n, random_m(), degree);
+/* A cut of the lent list, inside, at its ends or beyond, and a side. */
+static void put_cut(struct call *c) {
+    uint64_t entries = c->op == PART ? c->n : c->len[2] / 8;
+    c->other = ONE_OF(0, 1, entries / 2, entries - 1, entries, below(entries + 1 ? entries + 1 : 1),
+                      below(entries + 1 ? entries + 1 : 1), entries + 1, UINT64_MAX);
+    c->side = ONE_OF(0, 0, 1, 1, 2, UINT64_MAX, TWO_32);
+}
+
+static void begin_search(enum operation op, uint64_t n, unsigned degree) {
+    uint64_t place = random_place(n);
+    begin(&now, op, n, random_m(), degree);
     put_random_table(&now);
-    put_record(&now, degree, random_place(n));
+    put_record(&now, degree, place, random_end(n, place));
     put_limits(&now);
+    if (op == RUNNER) put_cut(&now);
 }
 
 /* ---- damage ---- */
@@ -403,10 +447,13 @@ static void damage_pair(struct call *c, unsigned i, size_t k) {
 
 static void damage_record(struct call *c, size_t k) {
     uint64_t end = power_of_three(c->n <= 20 ? (unsigned)c->n : 20), old = word(c, 1, k);
-    if (k >= RECORD_VALUE && one_in(2))
+    if (k >= RECORD_VALUE && k < RECORD_END && one_in(2))
         damage_pair(c, 1, k - (k - RECORD_VALUE) % 2);
     else if (k == RECORD_PLACE)
         set_word(c, 1, k, ONE_OF(old + 1, old - 1, 0, end, end + 1, UINT64_MAX, below(end)));
+    else if (k == RECORD_END)
+        set_word(c, 1, k, ONE_OF(old + 1, old - 1, 0, end, end + 1, UINT64_MAX, below(end),
+                                 word(c, 1, RECORD_PLACE), word(c, 1, RECORD_PLACE) - 1));
     else
         set_word(c, 1, k, old ^ (uint64_t)1 << below(64));
 }
@@ -427,18 +474,19 @@ static void damage_entries(struct call *c) {
     }
 }
 
-/* A word of the record: any, one before the second slots, or one of a second slot that the system
- * has. */
+/* A word of the record: any, one before the second slots, one of a second slot that the system has,
+ * or the end. */
 static size_t random_field(const struct call *c) {
     unsigned n = c->n >= 1 && c->n <= MOST_UNKNOWNS ? (unsigned)c->n : 20;
     unsigned b = (unsigned)below(n), other = (unsigned)below(n);
     size_t second = second_slot(b < other ? b : other, b < other ? other : b);
-    return (size_t)ONE_OF(below(RECORD_WORDS), below(RECORD_SECONDS), second + below(2));
+    return (size_t)ONE_OF(below(RECORD_WORDS), below(RECORD_SECONDS), second + below(2), RECORD_END);
 }
 
 /* One fault, or what may be one. */
 static void damage(struct call *c) {
-    switch (below(c->op == SEARCH ? 10 : 6)) {
+    int search = c->op == SEARCH || c->op == RUNNER;
+    switch (below(search ? 10 : 6)) {
     case 0: damage_size(&c->n, 20); break;
     case 1: damage_size(&c->m, 64); break;
     case 2: damage_length(c, (unsigned)below(lent_count(c))); break;
@@ -450,12 +498,12 @@ static void damage(struct call *c) {
         if (lent_of(c, 0)->role == TABLE && bytes_lent(c, 0) >= 16)
             damage_entries(c);
         break;
-    case 5: c->number = c->op == SEARCH ? 0 : random_number(c); break;
+    case 5: c->number = search ? 0 : random_number(c); break;
     case 6: c->len[2] = 0; break;
     default:
         if (c->len[1] == 8 * RECORD_WORDS) damage_record(c, random_field(c));
     }
-    if (c->op == SEARCH && c->n > 8 && c->number > 1000)
+    if (search && c->n > 8 && c->number > 1000)
         c->number = 1000; /* a damaged place must not become a walk of 3^20 */
 }
 
@@ -477,21 +525,28 @@ static void try_simple(void) {
     now.number = op == OPEN ? random_place(now.n) : random_number(&now);
     if (op == OPEN && one_in(8))
         now.number = power_of_three((unsigned)now.n) + ONE_OF(0, 1, 2, TWO_32);
+    if (op == RANGE) put_range(&now);
+    if (op == PART) {
+        now.n = ONE_OF(0, 1, 2, below(100), TWO_32, UINT64_MAX, random_word());
+        put_cut(&now);
+    }
     damage_some(&now);
     compare_call(&now);
 }
 
 /* A few calls in turn, from any place. Of degree 3 the large systems take the reference a while. */
 static void try_search(void) {
+    enum operation op = (enum operation)ONE_OF(SEARCH, SEARCH, RUNNER);
     if (random_degree() == 2)
-        begin_search(ONE_OF(20, 20, 9 + below(11), 1 + below(8), 1 + below(4)), 2);
+        begin_search(op, ONE_OF(20, 20, 9 + below(11), 1 + below(8), 1 + below(4)), 2);
     else
-        begin_search(one_in(8) ? ONE_OF(20, 9 + below(11)) : ONE_OF(1 + below(8), 1 + below(4)), 3);
+        begin_search(op, one_in(8) ? ONE_OF(20, 9 + below(11)) : ONE_OF(1 + below(8), 1 + below(4)), 3);
     damage_some(&now);
     for (uint64_t calls = 1 + below(4); calls > 0; calls--) {
         if (compare_call(&now) != 0) return;
         memcpy(now.bytes[1], after[1], 8 * RECORD_WORDS);
         put_limits(&now);
+        if (op == RUNNER) put_cut(&now);
     }
 }
 
@@ -499,89 +554,159 @@ static void try_search(void) {
 static void try_fields(void) {
     static uint8_t record[8 * RECORD_WORDS];
     unsigned degree = random_degree();
-    begin_search(ONE_OF(20, 1 + below(20), 1 + below(4), 2 + below(4)), degree);
+    begin_search(SEARCH, ONE_OF(20, 1 + below(20), 1 + below(4), 2 + below(4)), degree);
     now.number = 1 + below(5);
     memcpy(record, now.bytes[1], sizeof record);
     for (size_t k = 0; k < RECORD_WORDS; k++) {
-        if (degree == 3 && now.n > 6 && !one_in(10)) continue;
+        if (degree == 3 && now.n > 6 && k < RECORD_END && !one_in(10)) continue;
         damage_record(&now, k);
         compare_call(&now);
         memcpy(now.bytes[1], record, sizeof record);
     }
 }
 
-/* Every system of one equation in one unknown (k from 0 to 26), at every place, with every small
- * budget and list, and with the record of either reading. */
+/* Every system of one equation in one unknown (k from 0 to 26), in every range, with every small
+ * budget and list, and with the record of either reading; and with every small end in a record. */
 static void try_one_unknown(uint64_t k) {
     const int8_t row[3] = {(int8_t)(k % 3), (int8_t)(k / 3 % 3), (int8_t)(k / 9)};
     uint64_t table[6];
     begin(&now, SEARCH, 1, 1, 2);
     reference_pack(1, 1, row, 3, table, 6);
+    for (size_t j = 0; j < 6; j++)
+        set_word(&now, 0, j, table[j]);
     for (uint64_t place = 0; place <= 3; place++)
-        for (now.number = 0; now.number <= 4; now.number++)
-            for (uint64_t entries = 0; entries <= 9; entries++) {
-                for (size_t j = 0; j < 6; j++)
-                    set_word(&now, 0, j, table[j]);
-                put_record(&now, entries > 4 ? 3 : 2, place);
-                put_list(&now, entries % 5);
-                compare_call(&now);
-            }
+        for (uint64_t end = 0; end <= 4; end++)
+            for (now.number = 0; now.number <= 4; now.number++)
+                for (uint64_t entries = 0; entries <= 9; entries++) {
+                    put_record(&now, entries > 4 ? 3 : 2, place, 3);
+                    set_word(&now, 1, RECORD_END, end);
+                    put_list(&now, entries % 5);
+                    compare_call(&now);
+                }
 }
 
-/* A search with steps. */
-static void run_walk(void) {
-    static uint64_t joined[LONG_LIST];
-    uint64_t sum[ANSWER_WORDS] = {SPENT};
+/* What the calls of a walk gave, joined: list and answer. */
+struct joined { uint64_t list[LONG_LIST], answer[ANSWER_WORDS]; };
+
+/* Joins the call that was just compared; its list begins at this entry of the lent one. */
+static void join_call(struct joined *joined, uint64_t first) {
+    uint64_t *sum = joined->answer;
+    for (uint64_t j = 0; j < word_at(after[3] + 8 * ANSWER_FOUND); j++)
+        joined->list[sum[ANSWER_FOUND] + j] = word_at(after[2] + 8 * (first + j));
+    for (size_t k = ANSWER_POINTS; k <= ANSWER_FOUND; k++)
+        sum[k] += word_at(after[3] + 8 * k);
+    sum[ANSWER_STOP] = word_at(after[3] + 8 * ANSWER_STOP);
+    sum[ANSWER_PLACE] = word_at(after[3] + 8 * ANSWER_PLACE);
+}
+
+/* What was joined against one search of the reference. */
+static void compare_joined(const struct joined *joined) {
     void *whole[MOST_LENT] = {now.bytes[0], after[0], after[1], after[2]};
-    random_state = now.steps;
+    const uint64_t *sum = joined->answer;
     step = now;
-    step.steps = 0;
-    while (sum[ANSWER_STOP] != ENDED) {
-        put_limits(&step);
-        if (now.n > 5 && one_in(2)) { /* large steps, so that it ends in time */
-            step.number = 100 + below(power_of_three((unsigned)now.n));
-            put_list(&step, ONE_OF(6561, LONG_LIST, 100 + below(1000)));
-        }
-        if (compare_call(&step) != 0) differ(&now, "a refusal inside of a walk", "", 0, 1);
-        for (uint64_t j = 0; j < word_at(after[3] + 8 * ANSWER_FOUND); j++)
-            joined[sum[ANSWER_FOUND] + j] = word_at(after[2] + 8 * j);
-        for (size_t k = ANSWER_POINTS; k <= ANSWER_FOUND; k++)
-            sum[k] += word_at(after[3] + 8 * k);
-        sum[ANSWER_STOP] = word_at(after[3] + 8 * ANSWER_STOP);
-        sum[ANSWER_PLACE] = word_at(after[3] + 8 * ANSWER_PLACE);
-        memcpy(step.bytes[1], after[1], 8 * RECORD_WORDS);
-    }
-    compare_call(&step); /* and once more, ended before the first point */
+    step.op = SEARCH;
     memcpy(after[0], now.bytes[1], 8 * RECORD_WORDS);
-    if (perform_reference(&now, whole) != 0) fail("the reference refuses a whole walk");
+    if (perform_reference(&step, whole) != 0) fail("the reference refuses a whole walk");
     for (size_t k = 0; k < ANSWER_WORDS; k++)
         if (sum[k] != word_at(after[2] + 8 * k))
             differ(&now, "joined answers", "", word_at(after[2] + 8 * k), sum[k]);
     for (size_t k = 0; k < sum[ANSWER_FOUND]; k++)
-        if (joined[k] != word_at(after[1] + 8 * k))
-            differ(&now, "joined lists", "", word_at(after[1] + 8 * k), joined[k]);
+        if (joined->list[k] != word_at(after[1] + 8 * k))
+            differ(&now, "joined lists", "", word_at(after[1] + 8 * k), joined->list[k]);
+}
+
+/* Limits of the next call; of large systems often large ones, so that the walk ends in time. */
+static void put_step(uint64_t entries) {
+    put_limits(&step);
+    if (now.n > 5 && one_in(2)) {
+        step.number = 100 + below(power_of_three((unsigned)now.n));
+        put_list(&step, ONE_OF(6561, LONG_LIST, 100 + below(1000)));
+    }
+    if (entries > 0) put_list(&step, entries);
+}
+
+/* A search with steps. */
+static void run_walk(void) {
+    static struct joined joined;
+    memset(&joined, 0, sizeof joined);
+    joined.answer[ANSWER_STOP] = SPENT;
+    random_state = now.steps;
+    step = now;
+    step.steps = 0;
+    while (joined.answer[ANSWER_STOP] != ENDED) {
+        put_step(0);
+        if (compare_call(&step) != 0) differ(&now, "a refusal inside of a walk", "", 0, 1);
+        join_call(&joined, 0);
+        memcpy(step.bytes[1], after[1], 8 * RECORD_WORDS);
+    }
+    compare_call(&step); /* and once more, ended before the first point */
+    compare_joined(&joined);
     walks++;
 }
 
-static void try_walk(uint64_t n, unsigned degree, int whole) {
-    begin_search(n, degree);
-    if (whole) put_record(&now, degree, 0);
+/* Two runners with steps: the range is cut at a place, the list at an entry, and their calls come in
+ * any order. What one call leaves of the list is what the next one finds there. */
+static void run_runners(void) {
+    static struct joined joined[2], both;
+    static uint8_t record[2][8 * RECORD_WORDS];
+    uint64_t from = word(&now, 1, RECORD_PLACE), to = word(&now, 1, RECORD_END), middle, entries;
+    unsigned degree = degree_lent(&now, 0);
+    memset(joined, 0, sizeof joined);
+    random_state = now.steps;
+    middle = from + below(to - from + 1);
+    entries = 2 + ONE_OF(0, 1, 8, 60, 1000, below(5000));
+    step = now;
+    step.steps = 0;
+    for (unsigned side = 0; side < 2; side++) {
+        put_record(&step, degree, side ? middle : from, side ? to : middle);
+        memcpy(record[side], step.bytes[1], sizeof record[side]);
+        joined[side].answer[ANSWER_STOP] = SPENT;
+    }
+    put_list(&step, entries);
+    step.other = 1 + below(entries - 1);
+    while (joined[0].answer[ANSWER_STOP] != ENDED || joined[1].answer[ANSWER_STOP] != ENDED) {
+        unsigned side = (unsigned)below(2);
+        uint64_t left = word_at(record[side] + 8 * RECORD_END) - word_at(record[side] + 8 * RECORD_PLACE);
+        memcpy(step.bytes[1], record[side], sizeof record[side]);
+        step.side = side;
+        step.number = one_in(4) ? ONE_OF(1, 2, 27, UINT64_MAX) : 1 + left / 3 + below(left + 1);
+        if (compare_call(&step) != 0) differ(&now, "a refusal of a runner", "", 0, 1);
+        join_call(&joined[side], side ? step.other : 0);
+        memcpy(record[side], after[1], sizeof record[side]);
+        memcpy(step.bytes[2], after[2], bytes_lent(&step, 2));
+    }
+    both = joined[0];
+    memcpy(both.list + both.answer[ANSWER_FOUND], joined[1].list,
+           8 * (size_t)joined[1].answer[ANSWER_FOUND]);
+    both.answer[ANSWER_PLACE] = joined[1].answer[ANSWER_PLACE];
+    for (size_t k = ANSWER_POINTS; k <= ANSWER_FOUND; k++)
+        both.answer[k] += joined[1].answer[k];
+    compare_joined(&both);
+    pairs++;
+}
+
+static void try_walk(enum operation op, uint64_t n, unsigned degree, int whole) {
+    begin_search(SEARCH, n, degree);
+    if (whole) put_record(&now, degree, 0, power_of_three((unsigned)n));
+    now.op = op;
     now.number = UINT64_MAX;
     put_list(&now, LONG_LIST);
     now.steps = 1 + below(TWO_32);
-    run_walk();
+    if (op == RUNNER) run_runners();
+    else run_walk();
 }
 
 /* Every operation on tables, each of its buffers with the length that it has at the other degree. */
 static void try_other_lengths(uint64_t n, unsigned degree) {
-    for (enum operation op = SEARCH; op <= OPEN; op++)
+    for (enum operation op = SEARCH; op <= RANGE; op++)
         for (unsigned i = 0; i < MOST_LENT; i++) {
             begin(&now, op, n, random_m(), degree);
             if (i >= lent_count(&now)) break;
             if (op == PACK) random_rows(now.len[0] / now.m, now.m, (int8_t *)now.bytes[0]);
             else put_random_table(&now);
-            if (op == SEARCH) put_record(&now, degree, random_place(n));
+            if (op <= RUNNER) put_record(&now, degree, random_place(n), power_of_three((unsigned)n));
             now.number = 1;
+            now.side = 1;
             now.len[i] = right_length(&now, i, 5 - degree);
             compare_call(&now);
         }
@@ -590,12 +715,14 @@ static void try_other_lengths(uint64_t n, unsigned degree) {
 static void try_input(uint64_t k) {
     uint64_t kind = below(100);
     if (k < 27) try_one_unknown(k);
-    else if (k < 41) try_walk(1 + (k - 27) / 2, k % 2 ? 2 : 3, 1); /* n = 1 to 7, both degrees */
-    else if (k < 51) try_other_lengths((const uint64_t[]){1, 2, 3, 5, 20}[(k - 41) / 2], k % 2 ? 2 : 3);
+    else if (k < 41) try_walk(SEARCH, 1 + (k - 27) / 2, k % 2 ? 2 : 3, 1); /* n = 1 to 7, both degrees */
+    else if (k < 55) try_walk(RUNNER, 1 + (k - 41) / 2, k % 2 ? 2 : 3, 1);
+    else if (k < 65) try_other_lengths((const uint64_t[]){1, 2, 3, 5, 20}[(k - 55) / 2], k % 2 ? 2 : 3);
     else if (kind < 60) try_simple();
-    else if (kind < 95) try_search();
-    else if (kind < 96) try_fields();
-    else try_walk(ONE_OF(1, 2, 3, 4, 1 + below(5), 1 + below(8)), random_degree(), one_in(2));
+    else if (kind < 93) try_search();
+    else if (kind < 94) try_fields();
+    else try_walk((enum operation)ONE_OF(SEARCH, RUNNER), ONE_OF(1, 2, 3, 4, 1 + below(5), 1 + below(8)),
+                  random_degree(), one_in(2));
 }
 
 /* ---- the program ---- */
@@ -604,8 +731,9 @@ static void replay(const char *name) {
     FILE *file = fopen(name, "r");
     if (file == NULL) fail("the file to replay cannot be opened");
     while (read_case(file, &now))
-        if (now.steps != 0) run_walk();
-        else compare_call(&now);
+        if (now.steps == 0) compare_call(&now);
+        else if (now.op == RUNNER) run_runners();
+        else run_walk();
     if (agreed == 0) fail("no case to replay");
     fclose(file);
 }
@@ -617,8 +745,8 @@ static void try_many(uint64_t seed, uint64_t seconds, uint64_t count) {
         random_state = random_word();
         try_input(k);
     }
-    printf("seed %" PRIu64 ", %lu whole walks, %lu inputs of degree 3; by number given back, 0 to 7:\n",
-           seed, walks, cubic);
+    printf("seed %" PRIu64 ", %lu whole walks, %lu pairs of runners, %lu inputs of degree 3; by number given "
+           "back, 0 to 7:\n", seed, walks, pairs, cubic);
     for (unsigned op = 0; op < OPERATIONS; op++) {
         printf("%-12s", shapes[op].name);
         for (unsigned k = 0; k < 8; k++)

@@ -54,7 +54,30 @@ enum fault {
     FAR_SECOND_SLOT,          /* opening at n = 20: (0, 19) stays at its first value */
     CUBIC_READING_REFUSED,    /* at n = 1 */
     CUBIC_READING_LOST,       /* at n = 1 the record comes back in the other reading */
-    OPENED_IN_THE_OTHER_READING /* at n = 1 */
+    OPENED_IN_THE_OTHER_READING, /* at n = 1 */
+    END_IGNORED,              /* searches on to 3^n */
+    ENDED_AT_THE_LAST_ONLY,   /* at another end it stops and says "spent" */
+    SPENT_AT_THE_RANGE_END,   /* "spent" when the range's last point used the last of the budget */
+    FULL_AT_THE_RANGE_END,    /* "full" when the range's last point used the last entry */
+    POINT_AFTER_THE_END,      /* a range with p = e examines a point */
+    END_NOT_COMPARED,         /* a record's end above 3^n is taken for 3^n */
+    END_BELOW_THE_PLACE,      /* a record's end below its place is taken for its place */
+    OTHER_END_REFUSED,        /* 5 for a record whose end is not 3^n */
+    END_LOST,                 /* a record comes back with the end 3^n */
+    END_MOVED,                /* a record comes back with its place as its end */
+    END_PLACE_ANSWERED,       /* the answer's place is 3^n when ended */
+    OPENED_WITHOUT_END,       /* the end of a record opened without a range is 0 */
+    RANGE_BY_LENGTH,          /* opening takes the end for a number of places */
+    RANGE_END_ABOVE,          /* opening accepts an end of 3^n + 1 */
+    RANGE_END_BELOW,          /* opening accepts an end below the place */
+    EMPTY_RANGE_REFUSED,      /* opening with p = e is 4 */
+    END_BEFORE_SECOND_SLOTS,  /* opening puts it behind the slots */
+    CUT_BEYOND_ACCEPTED,      /* as if it were at the list's end */
+    EMPTY_PART_GIVEN,
+    EMPTY_BEFORE_BEYOND,      /* 7 for a cut beyond the list */
+    PARTS_OVERLAP,            /* the first part has the entry at the cut, too */
+    SIDES_EXCHANGED,
+    SIDE_BY_LOWEST_BIT        /* side 2 is taken for side 0 */
 };
 
 static int broken(enum fault fault) { return fault == BREAK; }
@@ -74,8 +97,36 @@ static void right_seconds(uint64_t n, uint64_t m, const uint8_t *table, size_t t
     if (reference_open(n, m, table_words(table, table_len), table_len / 8, place, opened,
                        RECORD_WORDS) != 0)
         return;
-    for (size_t k = RECORD_SECONDS; k < RECORD_WORDS; k++)
+    for (size_t k = RECORD_SECONDS; k < RECORD_END; k++)
         put_word(record + 8 * k, opened[k]);
+}
+
+/* Faults of a record's end that come before the search is performed; the end as the caller has it is
+ * put back by break_end. */
+static void break_before_end(uint64_t n, uint8_t *record) {
+    uint8_t *end = record + 8 * RECORD_END;
+    uint64_t place = word_at(record + 8 * RECORD_PLACE), last;
+    if (n < 1 || n > 20) return;
+    last = power_of_three((unsigned)n);
+    if (broken(END_IGNORED) && place <= word_at(end) && word_at(end) <= last) put_word(end, last);
+    if (broken(POINT_AFTER_THE_END) && place == word_at(end) && place < last) put_word(end, place + 1);
+    if (broken(END_NOT_COMPARED) && word_at(end) > last) put_word(end, last);
+    if (broken(END_BELOW_THE_PLACE) && word_at(end) < place) put_word(end, place);
+    if (broken(OTHER_END_REFUSED) && word_at(end) != last) put_word(end, last + 1);
+}
+
+/* Faults of ranges in a search that was not refused. */
+static void break_end(uint64_t n, const uint8_t *old_record, uint8_t *record, uint64_t budget,
+                      size_t list_len, uint8_t *answer) {
+    uint64_t last = power_of_three((unsigned)n), place = word_at(answer + 8);
+    int before = answer[0] == ENDED && place < last;
+    memcpy(record + 8 * RECORD_END, old_record + 8 * RECORD_END, 8);
+    if (broken(ENDED_AT_THE_LAST_ONLY) && before) answer[0] = SPENT;
+    if (broken(SPENT_AT_THE_RANGE_END) && before && word_at(answer + 16) == budget) answer[0] = SPENT;
+    if (broken(FULL_AT_THE_RANGE_END) && before && 8 * word_at(answer + 32) == list_len) answer[0] = FULL;
+    if (broken(END_LOST)) put_word(record + 8 * RECORD_END, last);
+    if (broken(END_MOVED)) put_word(record + 8 * RECORD_END, place);
+    if (broken(END_PLACE_ANSWERED) && before) put_word(answer + 8, last);
 }
 
 /* Faults of the search that come before it is performed. */
@@ -153,17 +204,19 @@ static void break_after(uint64_t n, uint8_t *table, const uint8_t *old_record, u
 uint64_t vayudrit_search(uint64_t n, uint64_t m, const uint8_t *table, size_t table_len,
                          uint8_t *record, size_t record_len, uint64_t budget,
                          uint8_t *list, size_t list_len, uint8_t *answer, size_t answer_len) {
-    static uint8_t old_record[1 << 17], old_list[1 << 17], other_answer[40];
+    static uint8_t old_record[1 << 17], old_list[1 << 18], other_answer[40];
     uint64_t refusal;
     memcpy(old_record, record, record_len);
     memcpy(old_list, list, list_len);
     break_before(n, m, table, table_len, record, record_len, &budget);
+    if (record_len == 8 * RECORD_WORDS) break_before_end(n, record);
     refusal = reference_search(n, m, table, table_len, record, record_len, budget, list, list_len,
                                answer, answer_len);
     if (refusal == 0) {
         break_after(n, (uint8_t *)(uintptr_t)table, old_record, record, budget, old_list, list,
                     list_len, answer);
         break_seconds(n, degree_of(n, table_len / 8), old_record, record, answer);
+        break_end(n, old_record, record, budget, list_len, answer);
     } else {
         memcpy(record, old_record, record_len);
     }
@@ -234,7 +287,7 @@ static void break_opened(uint64_t n, uint64_t m, const uint64_t *table, size_t t
             memcpy(words + 2 * (product_index(n, b, c) - product_index(n, 0, 0)),
                    record + second_slot(b, c), 16);
     if (broken(SECOND_SLOTS_PACKED)) {
-        memset(record + RECORD_SECONDS, 0, 8 * (RECORD_WORDS - RECORD_SECONDS));
+        memset(record + RECORD_SECONDS, 0, 8 * (RECORD_END - RECORD_SECONDS));
         memcpy(record + RECORD_SECONDS, words, 16 * pairs);
     }
     if (broken(FAR_SECOND_SLOT) && n == 20 && degree_of(n, table_len) == 3)
@@ -248,6 +301,45 @@ uint64_t vayudrit_open(uint64_t n, uint64_t m, const uint64_t *table, size_t tab
         place++;
     refusal = reference_open(n, m, table, table_len, place, record, record_len);
     if (refusal == 0) break_opened(n, m, table, table_len, record);
+    if (broken(OPENED_WITHOUT_END) && refusal == 0) record[RECORD_END] = 0;
+    return refusal;
+}
+
+/* Faults of the range for opening, where it is opened by one that is right. */
+static void break_range(uint64_t n, uint64_t *place, uint64_t *end) {
+    uint64_t last = n >= 1 && n <= 20 ? power_of_three((unsigned)n) : 0;
+    if (broken(RANGE_BY_LENGTH)) *end += *place;
+    if (broken(RANGE_END_ABOVE) && *end == last + 1) *end = last;
+    if (broken(RANGE_END_BELOW) && *end < *place) *end = *place;
+    if (broken(EMPTY_RANGE_REFUSED) && *end == *place) *place = last + 1;
+}
+
+uint64_t vayudrit_open_range(uint64_t n, uint64_t m, const uint64_t *table, size_t table_len,
+                             uint64_t place, uint64_t end, uint64_t *record, size_t record_len) {
+    uint64_t kept = end, refusal;
+    break_range(n, &place, &end);
+    refusal = reference_open_range(n, m, table, table_len, place, end, record, record_len);
+    if (refusal == 0) record[RECORD_END] = kept;
+    if (broken(END_BEFORE_SECOND_SLOTS) && refusal == 0) {
+        memmove(record + RECORD_SECONDS + 1, record + RECORD_SECONDS, 8 * (RECORD_END - RECORD_SECONDS));
+        record[RECORD_SECONDS] = end;
+    }
+    return refusal;
+}
+
+uint64_t vayudrit_part(uint64_t list_entries, uint64_t cut, uint64_t side, uint64_t *part,
+                       size_t part_len) {
+    uint64_t refusal;
+    if (broken(CUT_BEYOND_ACCEPTED) && cut > list_entries) cut = list_entries;
+    if (broken(SIDES_EXCHANGED)) side = side == 0;
+    if (broken(SIDE_BY_LOWEST_BIT)) side %= 2;
+    refusal = reference_part(list_entries, cut, side, part, part_len);
+    if (broken(EMPTY_BEFORE_BEYOND) && cut > list_entries && part_len == 2 && side != 0) refusal = 7;
+    if (broken(EMPTY_PART_GIVEN) && refusal == 7) {
+        part[0] = cut;
+        part[1] = refusal = 0;
+    }
+    if (broken(PARTS_OVERLAP) && refusal == 0 && side == 0 && cut < list_entries) part[1]++;
     return refusal;
 }
 
