@@ -1,5 +1,5 @@
 #!/usr/bin/env bash
-# The C interface: writes the static library, compiles the example and the test as C99 and as C++, and runs them.
+# The C interface: writes the static library, compiles the examples and the test as C99 and as C++, and runs them.
 set -e
 cd "$(dirname "$0")/.."
 out=$(mktemp -d)
@@ -39,6 +39,28 @@ g++ -x c++ -std=c++11 $warn examples/tidy.c -x none "$lib" -o "$out/tidy++"
 for program in tidy tidy++; do
     "$out/$program" <examples/sites.col | diff - examples/tidy.out
 done
+
+# Two threads on one table and one cut list: what they write, and that no two accesses of theirs race. Helgrind sees the library's
+# accesses as well; the compiler's own check only those of the example.
+gcc -std=c99 $warn -g -pthread examples/two.c "$lib" -o "$out/two"
+g++ -x c++ -std=c++11 $warn -pthread examples/two.c -x none "$lib" -o "$out/two++"
+for program in two two++; do
+    "$out/$program" >"$out/two.out"
+    diff "$out/two.out" examples/two.out
+done
+echo 'int main(void) { return 0; }' >"$out/nothing.c"
+if command -v valgrind >/dev/null 2>&1; then
+    valgrind -q --tool=helgrind --error-exitcode=9 "$out/two" >"$out/two.out"
+    diff "$out/two.out" examples/two.out
+    echo "two runners: no race (helgrind)"
+elif gcc -fsanitize=thread "$out/nothing.c" -o "$out/nothing" 2>"$out/nothing.log" && "$out/nothing"; then
+    gcc -std=c99 $warn -g -pthread -fsanitize=thread examples/two.c "$lib" -o "$out/two-checked"
+    "$out/two-checked" >"$out/two.out"
+    diff "$out/two.out" examples/two.out
+    echo "two runners: no race (thread sanitizer)"
+else
+    echo "two runners: not looked at for races, since there is neither valgrind nor the thread sanitizer"
+fi
 
 gcc -std=c99 $warn tests/interface.c "$lib" -o "$out/interface"
 gcc -std=c99 -g -fsanitize=address,undefined -Iinclude tests/interface.c "$lib" -o "$out/interface-checked"
