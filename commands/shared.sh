@@ -1,49 +1,27 @@
 # shellcheck shell=bash disable=SC2154,SC2317,SC1090
 # bash shared.sh PARENT NAME ARGUMENTS: what every command does around its program: arguments, the first build, signals, what was
 # told. PARENT is the process of commands/status.sh.
-# commands/NAME.sh has the command's own words: `name` (of the command, its program and its crate), `usage`, `meaning NUMBER LINE`.
+# commands/NAME.sh has the command's own words: `name` (of the command, its program and its crate), `usage`, `meaning NUMBER LINE`,
+# and `parts=1` where its search can be cut into parts.
 #
 # This shell waits. Its child looks at the arguments, builds the program where that is needed and then becomes it, with standard
-# input and output as they were given. How it ended comes back in one line on descriptor 3: the program tells it after its last
-# write to standard output was taken. Nothing told is status 1, whatever became of the child; "ended" is 76 and a refusal 77, of
+# input and output as they were given, or commands/parts.sh, which joins what several programs write. How it ended comes back in one
+# line on descriptor 3: the program tells it after its last write to standard output was taken. Nothing told is status 1, whatever became of the child; "ended" is 76 and a refusal 77, of
 # which commands/status.sh makes the command's own. The program does not outlive this shell, nor this shell its parent.
 set -u +o posix
 
 home=$(dirname "$(dirname "$(readlink -f "${BASH_SOURCE[0]}")")")
 [[ $PPID == "$1" ]] || exit 1 # it was killed before it could be heard of
-. "$home/commands/$2.sh" || exit 1
+parts=0
+. "$home/commands/words.sh" && . "$home/commands/$2.sh" || exit 1
 shift 2
 program=$home/target/bin/$name
 place=$home/target/commands # the lock and the logs of builds
-
-# ---- words
-
-# To standard error; that nobody can read them changes no status.
-say() { printf '%s: %s\n' "$name" "$*" >&2 2>/dev/null || :; }
-
-# A name of the user's, with nothing in it that a terminal would obey.
-shown() {
-    local text=$1
-    if [[ $text == *[!\ -~[:alnum:]]* ]]; then # letters of any script are shown as they are, and ASCII
-        local LC_ALL=C
-        text=${text@Q}
-    fi
-    printf '%s' "$text"
-}
 
 # Removes a line of progress, whoever wrote it.
 wipe() { [[ ! -t 2 ]] || printf '\r\e[K' >&2 2>/dev/null || :; }
 
 # ---- in the child
-
-# To the shell that waits; descriptor 3 is the caller's until the program runs.
-tell() { printf '%s\n' "$1" >&"$back"; }
-
-die() {
-    say "$@"
-    tell said
-    exit 1
-}
 
 # Seconds as a planner says them.
 duration() { if (($1 < 60)); then echo "$1 s"; else echo "$(($1 / 60)) min $(($1 % 60)) s"; fi; }
@@ -153,26 +131,48 @@ version() {
     printf '%s, Vayudrit %s\n%s\n' "$name" "$source" "$built"
 }
 
-# The file named, or nothing, in `file`; --help and --version are answered here.
+# A number of parts, or of a part, in as many digits as the program takes.
+is_count() { [[ $1 =~ ^[1-9][0-9]{0,4}$ ]]; }
+
+# What is to be done in parts, in `mode`: `jobs K`, `part I K` or `join`.
+take_mode() { # OPTION WORD
+    ((${#mode[@]} == 0)) || die "one of --jobs, --part and --join at a time"
+    case $1 in
+    --jobs)
+        is_count "$2" && (($2 <= 256)) || die "--jobs is followed by the number of programs, 1 to 256"
+        mode=(jobs "$2")
+        ;;
+    --part)
+        mode=(part "${2%%/*}" "${2#*/}")
+        [[ $2 == */* ]] && is_count "${mode[1]}" && is_count "${mode[2]}" && ((mode[1] <= mode[2])) ||
+            die "--part is followed by I/K, for part I of K: two numbers of at most 5 digits, I from 1 to K"
+        ;;
+    --join) mode=(join) ;;
+    esac
+}
+
+# The files named in `files`, what is to be done in parts in `mode`; --help and --version are answered here.
 take_arguments() {
-    local files=() last=0
+    local last=0
     while (($# > 0)); do
-        case $last$1 in
-        0-h | 0--help) usage && tell ended && exit 0 || exit 1 ;;
-        0--version) version && tell ended && exit 0 || exit 1 ;;
-        0--) last=1 ;;
-        0-?*) die "there is no option $(shown "$1"); --help tells which there are" ;;
+        case $last$parts$1 in
+        0?-h | 0?--help) usage && tell ended && exit 0 || exit 1 ;;
+        0?--version) version && tell ended && exit 0 || exit 1 ;;
+        0?--) last=1 ;;
+        01--jobs | 01--part) take_mode "$1" "${2-}" && shift "$(($# > 1))" ;;
+        01--jobs=* | 01--part=*) take_mode "${1%%=*}" "${1#*=}" ;;
+        01--join) take_mode "$1" '' ;;
+        0?-?*) die "there is no option $(shown "$1"); --help tells which there are" ;;
         *) files+=("$1") ;;
         esac
         shift
     done
-    ((${#files[@]} <= 1)) || die "one file at a time; ${#files[@]} were named"
-    file=${files[0]--}
 }
 
-# Standard input becomes the file, unless that is "-".
+# Standard input becomes the file, unless that is "-" or none was named.
 open_input() {
-    local words
+    local words file=${files[0]--}
+    ((${#files[@]} <= 1)) || die "one file at a time; ${#files[@]} were named"
     words=$(shown "$file")
     if [[ $file == - ]]; then
         ((input)) || die "standard input is closed"
@@ -202,18 +202,24 @@ make_wait() { # DESCRIPTOR
 }
 
 # The child, until it is the program, which the system kills when the shell that waits is gone; where it is gone already, the
-# program does not begin.
+# program does not begin. The shell that joins parts is started in the same way, and asks by itself.
 become_program() {
-    local file
+    local files=() mode=()
     ((output)) || die "standard output is closed"
     take_arguments "$@"
-    open_input
-    if outdated; then build; fi
+    if [[ ${mode[*]} != join ]]; then
+        open_input
+        if outdated; then build; fi
+    fi
     make_wait 0
     make_wait 1
     exec 3>&"$back" {back}>&-
+    case ${mode[0]-} in
+    jobs) exec setpriv --pdeathsig KILL bash -p "$home/commands/parts.sh" "$$" "$name" "${mode[@]}" ;;
+    join) exec setpriv --pdeathsig KILL bash -p "$home/commands/parts.sh" "$$" "$name" join "${files[@]}" ;;
+    esac
     # shellcheck disable=SC2016
-    exec setpriv --pdeathsig KILL sh -c '[ "$PPID" = "$0" ] && exec "$1"' "$$" "$program"
+    exec setpriv --pdeathsig KILL sh -c '[ "$PPID" = "$0" ] && shift && exec "$@"' "$$" - "$program" "${mode[@]:1}"
 }
 
 # ---- the shell that waits
