@@ -22,22 +22,26 @@ program=$home/target/bin/$name
 
 # ---- programs, tools and files
 
-room= # a folder of files that still have their names
+room=   # a folder of files that still have their names
+kept=() # descriptors of files
 
-# Everything that runs for this shell ends, and then this shell.
+# Everything that runs for this shell ends, and then this shell. What it does here needs descriptors, too.
 end_all() {
+    local fd
     trap '' USR1 HUP TERM
+    for fd in "${kept[@]}"; do exec {fd}>&-; done
+    [[ -z $room ]] || rm -rf "$room"
     # shellcheck disable=SC2046
     kill -KILL $(jobs -pr) 2>/dev/null
     wait
-    [[ -z $room ]] || rm -rf "$room"
     exit 1
 }
 
-# What went wrong is said, and nothing runs on.
+# What went wrong is said, and nothing runs on, even where nobody hears.
 give_up() {
+    trap '' PIPE
     say "$@"
-    tell said
+    tell said 2>/dev/null
     end_all
 }
 
@@ -61,7 +65,7 @@ open_files() { # COUNT
         { exec {fd}<>"$room/$i"; } 2>/dev/null || give_up "$1 files cannot be kept open in ${TMPDIR:-/tmp}"
         kept+=("$fd")
     done
-    rm -rf "$room"
+    rm -rf "$room" 2>/dev/null || give_up "$1 files cannot be kept open"
     room=
 }
 
@@ -187,7 +191,7 @@ join_parts() {
 }
 
 run_join() { # FILE..
-    local file kept=()
+    local file
     (($# > 0)) || give_up "--join is followed by the files of the parts"
     for file; do
         called+=("$(shown "$file")")
@@ -211,10 +215,10 @@ did_not_end() { # I K STATUS WORDS
 
 # Files are kept for the input, the programs' words, what is seen of the parts (two), and for each part its output and what it told.
 run_jobs() { # K
-    local i k=$1 kept=() programs=() line first status
+    local i k=$1 programs=() line first status
     open_files $((4 + 2 * k))
     # all that a program reads; for each the same
-    tool head -c 32769 1>&"${kept[0]}" 2>/dev/null || give_up "standard input could not be read"
+    tool head -c 32769 1>&"${kept[0]}" 2>/dev/null || give_up "standard input could not be read, or there is no room in ${TMPDIR:-/tmp}"
     for ((i = 1; i <= k; i++)); do
         start "$program" "$i" "$k" <"/proc/self/fd/${kept[0]}" 1>&"${kept[2 + 2 * i]}" 2>&"${kept[1]}" 3>&"${kept[3 + 2 * i]}"
         programs[i]=$!

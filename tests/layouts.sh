@@ -225,7 +225,7 @@ with_program 0 '' 'echo vars; echo ended >&3'
 echo 'exit 0' >"$out/environment"
 gives 0 '' env BASH_ENV="$out/environment" SHELLOPTS=noexec "$copy/layouts" examples/triangle.col
 [[ $(cat "$out/stdout") == vars ]] || fail 'the environment makes another command'
-for part in shared status layouts; do
+for part in shared status words layouts; do
     : >"$copy/commands/$part.sh"
     [[ $(status_of "$copy/layouts" --help) -eq 1 ]] || fail "an empty commands/$part.sh"
     passed
