@@ -7,6 +7,7 @@ ghost use Rattle.refusals.specs.Refusal.{codeOf};
 ghost use Rattle.reader.specs.Answers.{wordsAfter, callOf, callCode, toldAfter};
 ghost use Rattle.exchange.specs.Answers as tidied;
 ghost use Rattle.given.specs.Given.{tableTold};
+ghost use Rattle.list_parts.specs.Part.{partVerdict, partAfter};
 ghost use Rattle.number_calls.specs.Call.{convertCall, pointAfter, placeAfter, balancedAfter, unbalancedCall, unbalancedAfter};
 ghost use Rattle.table_calls.specs.Call.{checkCall, packCall, packLeft, copyCall, differencesLeft, coefficientsLeft, evaluateCall, evaluateAfter};
 ghost use Rattle.record_calls.specs.Call.{openCall, openAfter};
@@ -121,6 +122,15 @@ pub extern "C" fn vayudrit_open(
         × (now («record» .exit) ≡ openAfter (tableTold n m (now (table .entry))) place (now («record» .entry))) ⌝ }
 {
     record_calls::open(n, m, table, place, record)
+}
+
+// Which entries of a list, cut at an entry number, are on one side of the cut, as two words.
+#[no_mangle]
+pub extern "C" fn vayudrit_part(entries: u64, cut: u64, side: u64, part: &mut [u64]) -> u64
+    ensures { λ c. ⌜ (c ≡ codeOf (partVerdict entries cut side (length (now (part .entry)))))
+        × (now (part .exit) ≡ partAfter entries cut side (now (part .entry))) ⌝ }
+{
+    list_parts::part(entries, cut, side, part)
 }
 
 // The search for C, of a table of either degree: 0, or the number of the refusal, which alters no byte.
