@@ -14,30 +14,32 @@ use Rattle.positions.proofs.LowestLaw.{of-times}
 use Rattle.positions.proofs.PositionLaw.{positions-next}
 use Rattle.walks.specs.Walk.{iterate, turns, block}
 use Rattle.walks.proofs.BlockLaw.{block-is}
-use Rattle.moves.specs.Step.{State, push, lift, bump, moveOf, walkBy, walkOf}
+use Rattle.moves.specs.Step.{State, push, lift, bump, moveOf, noteBy, walkBy, walkOf}
 use Rattle.blocks.specs.Parts.{whole, threeOf, rowsOf, nineOf, legsOf, bigOf, topOf}
-use Rattle.moves.specs.Moves.{headed, turnedIn}
+use Rattle.moves.specs.Moves.{headed, spanOf, nearOf}
 use Rattle.moves.specs.declared.Moved.{Moved}
+use Rattle.moves.specs.declared.Span.{Span}
 use Rattle.blocks.specs.declared.parts.Part.{Part}
 use Rattle.blocks.specs.declared.parts.Top.{Top}
 use Rattle.gray.specs.Numbers.{pointOf}
-use Rattle.moves.proofs.MoveLaw.{two, lawful}
-use Rattle.moves.proofs.EntryLaw.{converted, entries-turned}
+use Rattle.moves.proofs.MoveLaw.{two, lawful, note-same}
+use Rattle.moves.proofs.SpanLaw.{near-block}
+use Rattle.moves.proofs.SameLaw.{iterate-same}
 
-module _ (T : ℕ → ℕ → Vector) where
-  big-is : (b : ℕ) (ps : List ℕ) (s : State) → block 3 (walkBy (λ p. p) T) 3 (b ∷ ps) s ≡ bigOf (T 0 b) (T 1 b) (T 2 b) (topOf T) s
+module _ (f : ℕ → ℕ) (T : ℕ → ℕ → Vector) where
+  big-is : (b : ℕ) (ps : List ℕ) (s : State) → block 3 (walkBy f T) 3 (b ∷ ps) s ≡ bigOf f (T 0 b) (T 1 b) (T 2 b) (topOf T) s
   unfolding block turns reps moveOf legsOf nineOf rowsOf threeOf
   big-is b ps s = refl
 
-  -- 27 places from one that 27 divides, each zero listed as its place
+  -- 27 places from one that 27 divides, with f of each zero's place listed
   pub big-step : (p b : ℕ) (s : State) → s .place ≡ p → 0 < p → p % 27 ≡ 0 → b ≡ lowestOf 3 p
-      → iterate 3 (walkBy (λ p. p) T) 27 s ≡ bigOf (T 0 b) (T 1 b) (T 2 b) (topOf T) (moveOf T (positions 3 p) s)
+      → iterate 3 (walkBy f T) 27 s ≡ bigOf f (T 0 b) (T 1 b) (T 2 b) (topOf T) (moveOf T (positions 3 p) s)
   big-step p b s sp h m e =
       let k : 27 * (p / 27) ≡ p = omega arith in
       let w : positions 3 p ≡ b ∷ positions 3 (p - 3 ^ lowestOf 3 p) = positions-next 3 two p h ∙ ap (λ (n : ℕ). n ∷ positions 3 (p - 3 ^ lowestOf 3 p)) (sym e) in
-      block-is 3 two (walkBy (λ p. p) T) (lawful (λ p. p) T) 3 (p / 27) s (sp ∙ sym k)
-      ∙ ap (λ (x : ℕ). block 3 (walkBy (λ p. p) T) 3 (positions 3 x) (moveOf T (positions 3 x) s)) k
-      ∙ ap (λ (ps : List ℕ). block 3 (walkBy (λ p. p) T) 3 ps (moveOf T (positions 3 p) s)) w
+      block-is 3 two (walkBy f T) (lawful f T) 3 (p / 27) s (sp ∙ sym k)
+      ∙ ap (λ (x : ℕ). block 3 (walkBy f T) 3 (positions 3 x) (moveOf T (positions 3 x) s)) k
+      ∙ ap (λ (ps : List ℕ). block 3 (walkBy f T) 3 ps (moveOf T (positions 3 p) s)) w
       ∙ big-is b (positions 3 (p - 3 ^ lowestOf 3 p)) (moveOf T (positions 3 p) s)
 
 -- the first position of a number that 27 divides
@@ -89,21 +91,18 @@ pub headed-bump : (b : ℕ) (t v : Vector) (s : State) (m : Moved) → b < lengt
 unfolding bump push lift
 headed-bump b t v s m l e hs hv ha = rw (hv, hs, ha, e, getD-set-same (s .slots) b (addOf (getD (s .slots) b none) t) none l)
 
--- 27 places, from what the parts of the code give, with the places of the zeros found turned into their points at last
-pub block27-is : (n : ℕ) (T : ℕ → ℕ → Vector) (x y : Part) (rest : List Vector) (l l' l'' : List ℕ) (b : ℕ) (r : Moved)
-    → 0 < x .place → x .place % 27 ≡ 0 → b ≡ lowestOf 3 (x .place) → x .found + 27 ≤ length l
+-- 27 places, from what the parts of the code give: the block's own numbers give the points of its places
+pub block27-is : (n : ℕ) (T : ℕ → ℕ → Vector) (p : Span) (x y : Part) (rest : List Vector) (l l' : List ℕ) (b : ℕ) (r : Moved)
+    → p ≡ spanOf n (x .place) → x .place + 27 ≤ 3 ^ n → 0 < x .place → x .place % 27 ≡ 0 → b ≡ lowestOf 3 (x .place)
     → moveOf T (positions 3 (x .place)) (whole x rest l) ≡ headed (whole x rest l) b r
-    → whole y (set rest (b - 3) (r .slot)) l' ≡ bigOf (T 0 b) (T 1 b) (T 2 b) (topOf T) (whole (with3 x r) (set rest (b - 3) (r .slot)) l)
-    → l'' ≡ turnedIn (pointOf 3 n) (x .found) (y .found - x .found) l'
-    → whole y (set rest (b - 3) (r .slot)) l'' ≡ iterate 3 (walkOf n T) 27 (whole x rest l)
-block27-is n T x y rest l l' l'' b r h m e room hm hb hl =
+    → whole y (set rest (b - 3) (r .slot)) l' ≡ bigOf (nearOf p) (T 0 b) (T 1 b) (T 2 b) (topOf T) (whole (with3 x r) (set rest (b - 3) (r .slot)) l)
+    → whole y (set rest (b - 3) (r .slot)) l' ≡ iterate 3 (walkOf n T) 27 (whole x rest l)
+block27-is n T p x y rest l l' b r ep far h m e hm hb =
     let t : 3 ≤ b = omega (arith, low27 (x .place) h m) in
     let s = whole x rest l in
-    let u : whole y (set rest (b - 3) (r .slot)) l' ≡ iterate 3 (walkBy (λ p. p) T) 27 s =
-    hb ∙ ap (bigOf (T 0 b) (T 1 b) (T 2 b) (topOf T)) (headed3 x rest l b r t ∙ sym hm) ∙ sym (big-step T (x .place) b s refl h m e) in
-    ap (λ (z : List ℕ). whole y (set rest (b - 3) (r .slot)) z) hl
-    ∙ ap (converted (pointOf 3 n) (x .found)) u
-    ∙ entries-turned (pointOf 3 n) T 27 s room
+    hb ∙ ap (bigOf (nearOf p) (T 0 b) (T 1 b) (T 2 b) (topOf T)) (headed3 x rest l b r t ∙ sym hm) ∙ sym (big-step (nearOf p) T (x .place) b s refl h m e)
+    ∙ iterate-same 3 two (λ (u : State). u .place) (moveOf T) (noteBy (nearOf p)) (noteBy (pointOf 3 n)) (lawful (nearOf p) T) 27 s
+    (λ u a c. note-same (nearOf p) (pointOf 3 n) u (ap (λ (z : Span). nearOf z (u .place)) ep ∙ near-block n (x .place) (u .place) m far a c))
 
 -- the first position and what is left, from a 27th
 pub lift27 : (p k r : ℕ) → 0 < p → p % 27 ≡ 0 → k ≡ lowestOf 3 (p / 27) → p / 27 ≡ 3 ^ k * r → (k + 3 ≡ lowestOf 3 p) × (p ≡ 3 ^ (k + 3) * r)
@@ -114,28 +113,29 @@ lift27 p k r h m e f =
     (omega (arith, ap (lowestOf 3) w), sym w ∙ ap (λ (n : ℕ). 27 * n) f ∙ sym x)
 
 -- the rows of three that are left of nine places, and the legs of nine that are left of 27
-module _ (t00 t01 t11 : Vector) where
-  pub rows-more : (k : ℕ) (a b : Vector) (s : State) → 0 < k → rowsOf k a b t00 t01 t11 s ≡ rowsOf (k - 1) t01 t11 t00 t01 t11 (bump 1 b (threeOf a t00 s))
-  unfolding rowsOf
-  rows-more zero a b s h = absurd (omega arith)
-  rows-more (suc k) a b s h =
+module _ (f : ℕ → ℕ) where
+  module _ (t00 t01 t11 : Vector) where
+    pub rows-more : (k : ℕ) (a b : Vector) (s : State) → 0 < k → rowsOf f k a b t00 t01 t11 s ≡ rowsOf f (k - 1) t01 t11 t00 t01 t11 (bump 1 b (threeOf f a t00 s))
+    unfolding rowsOf
+    rows-more zero a b s h = absurd (omega arith)
+    rows-more (suc k) a b s h =
+        let e : k ≡ suc k - 1 = omega arith in
+        ap (λ (j : ℕ). rowsOf f j t01 t11 t00 t01 t11 (bump 1 b (threeOf f a t00 s))) e
+
+    pub rows-none : (a b : Vector) (s : State) → rowsOf f 0 a b t00 t01 t11 s ≡ threeOf f a t00 s
+    unfolding rowsOf
+    rows-none a b s = refl
+
+  pub legs-more : (k : ℕ) (a b c : Vector) (t : Top) (s : State) → 0 < k → legsOf f k a b c t s ≡ legsOf f (k - 1) (t .t02) (t .t12) (t .t22) t (bump 2 c (nineOf f a b t s))
+  unfolding legsOf
+  legs-more zero a b c t s h = absurd (omega arith)
+  legs-more (suc k) a b c t s h =
       let e : k ≡ suc k - 1 = omega arith in
-      ap (λ (j : ℕ). rowsOf j t01 t11 t00 t01 t11 (bump 1 b (threeOf a t00 s))) e
+      ap (λ (j : ℕ). legsOf f j (t .t02) (t .t12) (t .t22) t (bump 2 c (nineOf f a b t s))) e
 
-  pub rows-none : (a b : Vector) (s : State) → rowsOf 0 a b t00 t01 t11 s ≡ threeOf a t00 s
-  unfolding rowsOf
-  rows-none a b s = refl
-
-pub legs-more : (k : ℕ) (a b c : Vector) (t : Top) (s : State) → 0 < k → legsOf k a b c t s ≡ legsOf (k - 1) (t .t02) (t .t12) (t .t22) t (bump 2 c (nineOf a b t s))
-unfolding legsOf
-legs-more zero a b c t s h = absurd (omega arith)
-legs-more (suc k) a b c t s h =
-    let e : k ≡ suc k - 1 = omega arith in
-    ap (λ (j : ℕ). legsOf j (t .t02) (t .t12) (t .t22) t (bump 2 c (nineOf a b t s))) e
-
-pub legs-none : (a b c : Vector) (t : Top) (s : State) → legsOf 0 a b c t s ≡ nineOf a b t s
-unfolding legsOf
-legs-none a b c t s = refl
+  pub legs-none : (a b c : Vector) (t : Top) (s : State) → legsOf f 0 a b c t s ≡ nineOf f a b t s
+  unfolding legsOf
+  legs-none a b c t s = refl
 
 -- a state put together from its parts
 pub together : (x : Part) (v : List Vector) (l : List ℕ) → 3 ≤ length v

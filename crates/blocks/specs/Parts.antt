@@ -25,31 +25,27 @@ pub record Went (x r : Part) (k a : ℕ) : Type 0 where
   pub found : r .found ≤ x .found + k
   pub additions : r .additions ≤ x .additions + a
 
--- inside a block a zero is listed as its place; the block's end turns the places into points
-abbrev pub jotOf : State → State
-jotOf s = noteBy (λ p. p) s
-
--- three places, where the first has been moved to
-unfoldable pub threeOf : Vector → Vector → State → State
-threeOf th t00 s = jotOf (bump 0 t00 (jotOf (bump 0 th (jotOf s))))
+-- three places, where the first has been moved to, with f of each zero's place listed
+unfoldable pub threeOf : (ℕ → ℕ) → Vector → Vector → State → State
+threeOf f th t00 s = noteBy f (bump 0 t00 (noteBy f (bump 0 th (noteBy f s))))
 
 -- three places, and k times a move of slot 1 and three more
-unfoldable pub rowsOf : ℕ → Vector → Vector → Vector → Vector → Vector → State → State
-rowsOf zero t0h t1h t00 t01 t11 s = threeOf t0h t00 s
-rowsOf (suc k) t0h t1h t00 t01 t11 s = rowsOf k t01 t11 t00 t01 t11 (bump 1 t1h (threeOf t0h t00 s))
+unfoldable pub rowsOf : (ℕ → ℕ) → ℕ → Vector → Vector → Vector → Vector → Vector → State → State
+rowsOf f zero t0h t1h t00 t01 t11 s = threeOf f t0h t00 s
+rowsOf f (suc k) t0h t1h t00 t01 t11 s = rowsOf f k t01 t11 t00 t01 t11 (bump 1 t1h (threeOf f t0h t00 s))
 
 -- nine places, where the first has been moved to
-unfoldable pub nineOf : Vector → Vector → Top → State → State
-nineOf t0h t1h t s = rowsOf 2 t0h t1h (t .t00) (t .t01) (t .t11) s
+unfoldable pub nineOf : (ℕ → ℕ) → Vector → Vector → Top → State → State
+nineOf f t0h t1h t s = rowsOf f 2 t0h t1h (t .t00) (t .t01) (t .t11) s
 
 -- nine places, and k times a move of slot 2 and nine more
-unfoldable pub legsOf : ℕ → Vector → Vector → Vector → Top → State → State
-legsOf zero t0h t1h t2h t s = nineOf t0h t1h t s
-legsOf (suc k) t0h t1h t2h t s = legsOf k (t .t02) (t .t12) (t .t22) t (bump 2 t2h (nineOf t0h t1h t s))
+unfoldable pub legsOf : (ℕ → ℕ) → ℕ → Vector → Vector → Vector → Top → State → State
+legsOf f zero t0h t1h t2h t s = nineOf f t0h t1h t s
+legsOf f (suc k) t0h t1h t2h t s = legsOf f k (t .t02) (t .t12) (t .t22) t (bump 2 t2h (nineOf f t0h t1h t s))
 
 -- 27 places, where the first has been moved to
-abbrev pub bigOf : Vector → Vector → Vector → Top → State → State
-bigOf t0h t1h t2h t s = legsOf 2 t0h t1h t2h t s
+abbrev pub bigOf : (ℕ → ℕ) → Vector → Vector → Vector → Top → State → State
+bigOf f t0h t1h t2h t s = legsOf f 2 t0h t1h t2h t s
 
 -- the entries that every block uses
 abbrev pub topOf : (ℕ → ℕ → Vector) → Top

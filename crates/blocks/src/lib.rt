@@ -1,8 +1,8 @@
 // Blocks of 27 places of the walk, from one that 27 divides.
 // Contracts cite specs/Parts: what a block does in the code's terms.
 use crate::parts::big;
+use moves::Span;
 use moves::head;
-use moves::points;
 use trits::Vector;
 ghost use mathlib.Core.Path.{_≡_};
 ghost use mathlib.Core.List.{List};
@@ -13,7 +13,7 @@ ghost use Rattle.trits.specs.Trit.{none};
 ghost use Rattle.positions.specs.Positions.{lowestOf};
 ghost use Rattle.walks.specs.Walk.{iterate};
 ghost use Rattle.moves.specs.Step.{walkOf};
-ghost use Rattle.moves.specs.Moves.{product, Sized};
+ghost use Rattle.moves.specs.Moves.{product, Sized, Offsets, spanOf};
 ghost use Rattle.blocks.specs.Parts.{whole, topOf};
 
 mod parts;
@@ -53,6 +53,7 @@ pub fn tops(table: &[u64], n: usize) -> Top
 }
 
 // 27 places, from one above 0 that 27 divides: 3 to its first position b, times rest. Of the slots from 3 on, others, only slot b moves.
+// Span and low give the points of the block.
 pub fn block27(
     table: &[u64],
     n: usize,
@@ -61,10 +62,13 @@ pub fn block27(
     rest: u64,
     slot: Vector,
     top: Top,
+    s: Span,
+    low: &[u64; 81],
     list: &mut [u64],
 ) -> Turned
     requires { ⌜ Sized (now table) n (3 ^ n) ⌝ }
-    requires { ⌜ top ≡ topOf (product (now table) n) ⌝ }
+    requires { ⌜ (top ≡ topOf (product (now table) n)) × (s ≡ spanOf n (x .place)) ⌝ }
+    requires { ⌜ Offsets (now low) ⌝ }
     requires { ⌜ (0 < x .place) × (x .place % 27 ≡ 0) × (x .place + 27 ≤ 3 ^ n) × (b ≡ lowestOf 3 (x .place)) × (x .place ≡ 3 ^ b * rest) ⌝ }
     requires { ⌜ (x .found + 27 ≤ length (now list)) × (x .additions + 54 < 2 ^ 64) ⌝ }
     ensures state { λ r. ⌜ ((others : List Vector) → getD others (b - 3) none ≡ slot → b - 3 < length others → whole (r .part) (set others (b - 3) (r .slot)) (now (list .exit)) ≡ iterate 3 (walkOf n (product (now (table .entry)) n)) 27 (whole x others (now (list .entry)))) ⌝ }
@@ -80,7 +84,6 @@ pub fn block27(
     let mut y = x;
     y.value = next;
     y.additions = h.additions;
-    let part = big(y, t0h, t1h, t2h, top, list);
-    points(n, list, place, x.found, part.found);
+    let part = big(y, t0h, t1h, t2h, top, s, low, list);
     Turned { part, slot: up }
 }

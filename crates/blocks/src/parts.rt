@@ -1,6 +1,7 @@
 // Blocks of 27 places: 27 is three nines, nine is three threes, and only slots 0 to 2 move inside.
 use moves::Moved;
-use moves::jot;
+use moves::Span;
+use moves::mark;
 use moves::raise;
 use trits::Vector;
 ghost use mathlib.Core.Path.{_≡_};
@@ -9,9 +10,9 @@ ghost use Prim.Native.Nat.{ℕ, _+_, _^_, _<_, _≤_};
 ghost use lib.ListN.{length, getD};
 ghost use Rattle.trits.specs.declared.Vector.{Vector};
 ghost use Rattle.trits.specs.Trit.{none};
-ghost use Rattle.moves.specs.Step.{bump};
-ghost use Rattle.moves.specs.Moves.{headed};
-ghost use Rattle.blocks.specs.Parts.{whole, Went, jotOf, threeOf, nineOf, bigOf};
+ghost use Rattle.moves.specs.Step.{bump, noteBy};
+ghost use Rattle.moves.specs.Moves.{headed, Offsets, nearOf, Inside};
+ghost use Rattle.blocks.specs.Parts.{whole, Went, threeOf, nineOf, bigOf};
 
 // What moves inside a block: the value, the slots of unknowns 0 to 2, and the counts. Flat, so that it stays in registers.
 pub struct Part {
@@ -34,15 +35,16 @@ pub struct Top {
     pub t22: Vector,
 }
 
-// The place is listed where the value is zero, and it is passed.
-pub fn note(mut x: Part, list: &mut [u64]) -> Part
-    requires { ⌜ (x .found + 1 ≤ length (now list)) × (x .place + 1 < 2 ^ 64) ⌝ }
-    ensures state { λ r. ⌜ ((rest : List Vector) → whole r rest (now (list .exit)) ≡ jotOf (whole x rest (now (list .entry)))) ⌝ }
+// The place's point is listed where the value is zero, and the place is passed.
+pub fn note(mut x: Part, s: Span, low: &[u64; 81], list: &mut [u64]) -> Part
+    requires { ⌜ Offsets (now low) ⌝ }
+    requires { ⌜ Inside s (x .place) 1 × (x .found + 1 ≤ length (now list)) ⌝ }
+    ensures state { λ r. ⌜ ((rest : List Vector) → whole r rest (now (list .exit)) ≡ noteBy (nearOf s) (whole x rest (now (list .entry)))) ⌝ }
     ensures went { λ r. ⌜ Went x r 1 0 ⌝ }
 {
     let value = x.value;
     let place = x.place;
-    let found = jot(value, place, x.found, list);
+    let found = mark(value, s, low, place, x.found, list);
     x.found = found;
     x.place = place + 1;
     x
@@ -97,30 +99,48 @@ fn raise_slot(x: Part, b: u32, t: Vector) -> Part
 }
 
 // A place where slot 0 moves.
-fn step0(x: Part, t: Vector, list: &mut [u64]) -> Part
-    requires { ⌜ (x .found + 1 ≤ length (now list)) × (x .place + 1 < 2 ^ 64) × (x .additions + 2 < 2 ^ 64) ⌝ }
-    ensures state { λ r. ⌜ ((rest : List Vector) → whole r rest (now (list .exit)) ≡ jotOf (bump 0 t (whole x rest (now (list .entry))))) ⌝ }
+fn step0(x: Part, t: Vector, s: Span, low: &[u64; 81], list: &mut [u64]) -> Part
+    requires { ⌜ Offsets (now low) ⌝ }
+    requires { ⌜ Inside s (x .place) 1 × (x .found + 1 ≤ length (now list)) × (x .additions + 2 < 2 ^ 64) ⌝ }
+    ensures state { λ r. ⌜ ((rest : List Vector) → whole r rest (now (list .exit)) ≡ noteBy (nearOf s) (bump 0 t (whole x rest (now (list .entry))))) ⌝ }
     ensures went { λ r. ⌜ Went x r 1 2 ⌝ }
 {
     let m = raise_slot(x, 0, t);
-    note(m, list)
+    note(m, s, low, list)
 }
 
 // Three places, where the first has been moved to.
-fn three(x: Part, th: Vector, t00: Vector, list: &mut [u64]) -> Part
-    requires { ⌜ (x .found + 3 ≤ length (now list)) × (x .place + 3 < 2 ^ 64) × (x .additions + 4 < 2 ^ 64) ⌝ }
-    ensures state { λ r. ⌜ ((rest : List Vector) → whole r rest (now (list .exit)) ≡ threeOf th t00 (whole x rest (now (list .entry)))) ⌝ }
+fn three(
+    x: Part,
+    th: Vector,
+    t00: Vector,
+    s: Span,
+    low: &[u64; 81],
+    list: &mut [u64],
+) -> Part
+    requires { ⌜ Offsets (now low) ⌝ }
+    requires { ⌜ Inside s (x .place) 3 × (x .found + 3 ≤ length (now list)) × (x .additions + 4 < 2 ^ 64) ⌝ }
+    ensures state { λ r. ⌜ ((rest : List Vector) → whole r rest (now (list .exit)) ≡ threeOf (nearOf s) th t00 (whole x rest (now (list .entry)))) ⌝ }
     ensures went { λ r. ⌜ Went x r 3 4 ⌝ }
 {
-    let a = note(x, list);
-    let b = step0(a, th, list);
-    step0(b, t00, list)
+    let a = note(x, s, low, list);
+    let b = step0(a, th, s, low, list);
+    step0(b, t00, s, low, list)
 }
 
 // Nine places, where the first has been moved to.
-fn nine(x: Part, t0h: Vector, t1h: Vector, top: Top, list: &mut [u64]) -> Part
-    requires { ⌜ (x .found + 9 ≤ length (now list)) × (x .place + 9 < 2 ^ 64) × (x .additions + 16 < 2 ^ 64) ⌝ }
-    ensures state { λ r. ⌜ ((rest : List Vector) → whole r rest (now (list .exit)) ≡ nineOf t0h t1h top (whole x rest (now (list .entry)))) ⌝ }
+fn nine(
+    x: Part,
+    t0h: Vector,
+    t1h: Vector,
+    top: Top,
+    s: Span,
+    low: &[u64; 81],
+    list: &mut [u64],
+) -> Part
+    requires { ⌜ Offsets (now low) ⌝ }
+    requires { ⌜ Inside s (x .place) 9 × (x .found + 9 ≤ length (now list)) × (x .additions + 16 < 2 ^ 64) ⌝ }
+    ensures state { λ r. ⌜ ((rest : List Vector) → whole r rest (now (list .exit)) ≡ nineOf (nearOf s) t0h t1h top (whole x rest (now (list .entry)))) ⌝ }
     ensures went { λ r. ⌜ Went x r 9 16 ⌝ }
 {
     let t00 = top.t00;
@@ -131,7 +151,7 @@ fn nine(x: Part, t0h: Vector, t1h: Vector, top: Top, list: &mut [u64]) -> Part
     let mut a1 = t1h;
     let mut left: u32 = 2;
     loop {
-        y = three(y, a0, t00, list);
+        y = three(y, a0, t00, s, low, list);
         if left == 0 {
             return y;
         }
@@ -149,10 +169,13 @@ pub(crate) fn big(
     t1h: Vector,
     t2h: Vector,
     top: Top,
+    s: Span,
+    low: &[u64; 81],
     list: &mut [u64],
 ) -> Part
-    requires { ⌜ (x .found + 27 ≤ length (now list)) × (x .place + 27 < 2 ^ 64) × (x .additions + 52 < 2 ^ 64) ⌝ }
-    ensures state { λ r. ⌜ ((rest : List Vector) → whole r rest (now (list .exit)) ≡ bigOf t0h t1h t2h top (whole x rest (now (list .entry)))) ⌝ }
+    requires { ⌜ Offsets (now low) ⌝ }
+    requires { ⌜ Inside s (x .place) 27 × (x .found + 27 ≤ length (now list)) × (x .additions + 52 < 2 ^ 64) ⌝ }
+    ensures state { λ r. ⌜ ((rest : List Vector) → whole r rest (now (list .exit)) ≡ bigOf (nearOf s) t0h t1h t2h top (whole x rest (now (list .entry)))) ⌝ }
     ensures went { λ r. ⌜ Went x r 27 52 ⌝ }
 {
     let t02 = top.t02;
@@ -164,7 +187,7 @@ pub(crate) fn big(
     let mut a2 = t2h;
     let mut left: u32 = 2;
     loop {
-        y = nine(y, a0, a1, top, list);
+        y = nine(y, a0, a1, top, s, low, list);
         if left == 0 {
             return y;
         }

@@ -32,9 +32,9 @@ pub turn3 : {S : Type 0} (W : Walk S) (l : ℕ) (ps : List ℕ) (s : S)
 unfolding block turns reps
 turn3 W l ps s = refl
 
-module _ (t : List ℕ) (n : ℕ) where
+module _ (f : ℕ → ℕ) (t : List ℕ) (n : ℕ) where
   abbrev W : Walk State
-  W = walkBy (λ p. p) (tripleAt t n)
+  W = walkBy f (tripleAt t n)
 
   abbrev E : ℕ → Vector
   E = entry t
@@ -51,16 +51,16 @@ module _ (t : List ℕ) (n : ℕ) where
   unfolding moveOf
   move-two c d ps s = ap (λ (k : ℕ). bump 2 k (E (keyOf n 2 + pairOf n c d)) s) (pair-two 20 c)
 
-  pub three-is : (c d : ℕ) (ps : List ℕ) (s : State) → block 3 W 1 (c ∷ d ∷ ps) s ≡ threeOf E (keyOf n 0) c (pairOf n c d) s
+  pub three-is : (c d : ℕ) (ps : List ℕ) (s : State) → block 3 W 1 (c ∷ d ∷ ps) s ≡ threeOf f E (keyOf n 0) c (pairOf n c d) s
   unfolding block turns reps threeOf
   three-is c d ps s = rw (move-zero c d ps, move-zero 0 c (d ∷ ps), pair-zero n c)
 
-  pub nine-is : (c d : ℕ) (ps : List ℕ) (s : State) → block 3 W 2 (c ∷ d ∷ ps) s ≡ nineOf E (keysOf n) c (pairOf n c d) s
+  pub nine-is : (c d : ℕ) (ps : List ℕ) (s : State) → block 3 W 2 (c ∷ d ∷ ps) s ≡ nineOf f E (keysOf n) c (pairOf n c d) s
   unfolding nineOf rowsOf
   nine-is c d ps s =
       rw (turn3 W 1 (c ∷ d ∷ ps) s, three-is c d ps, move-one c d ps, three-is 1 c (d ∷ ps), move-one 1 c (d ∷ ps), three-is 1 1 (c ∷ d ∷ ps), pair-one n c, pair-one n 1)
 
-  pub big-is : (c d : ℕ) (ps : List ℕ) (s : State) → block 3 W 3 (c ∷ d ∷ ps) s ≡ bigOf E (keysOf n) c (pairOf n c d) s
+  pub big-is : (c d : ℕ) (ps : List ℕ) (s : State) → block 3 W 3 (c ∷ d ∷ ps) s ≡ bigOf f E (keysOf n) c (pairOf n c d) s
   unfolding legsOf
   big-is c d ps s =
       rw (turn3 W 2 (c ∷ d ∷ ps) s, nine-is c d ps, move-two c d ps, nine-is 2 c (d ∷ ps), move-two 2 c (d ∷ ps), nine-is 2 2 (c ∷ d ∷ ps), pair-two n c, pair-two n 2)

@@ -73,25 +73,25 @@ module _ {t : List ℕ} {k : Keys} {c p : ℕ} (f : Fits t k c p) where
       }
 
 -- the rows of three that are left of nine places, and the legs of nine that are left of 27
-module _ (E : ℕ → Vector) (k : Keys) where
-  pub rows-more : (j c p : ℕ) (s : State) → 0 < j → rowsOf E k j c p s ≡ rowsOf E k (j - 1) 1 (k .p1 + c) (bump 1 (19 + c) (E (k .k1 + p)) (threeOf E (k .k0) c p s))
+module _ (f : ℕ → ℕ) (E : ℕ → Vector) (k : Keys) where
+  pub rows-more : (j c p : ℕ) (s : State) → 0 < j → rowsOf f E k j c p s ≡ rowsOf f E k (j - 1) 1 (k .p1 + c) (bump 1 (19 + c) (E (k .k1 + p)) (threeOf f E (k .k0) c p s))
   unfolding rowsOf
   rows-more zero c p s h = absurd (omega arith)
   rows-more (suc j) c p s h =
       let e : j ≡ suc j - 1 = omega arith in
-      ap (λ (i : ℕ). rowsOf E k i 1 (k .p1 + c) (bump 1 (19 + c) (E (k .k1 + p)) (threeOf E (k .k0) c p s))) e
+      ap (λ (i : ℕ). rowsOf f E k i 1 (k .p1 + c) (bump 1 (19 + c) (E (k .k1 + p)) (threeOf f E (k .k0) c p s))) e
 
-  pub rows-none : (c p : ℕ) (s : State) → rowsOf E k 0 c p s ≡ threeOf E (k .k0) c p s
+  pub rows-none : (c p : ℕ) (s : State) → rowsOf f E k 0 c p s ≡ threeOf f E (k .k0) c p s
   unfolding rowsOf
   rows-none c p s = refl
 
-  pub legs-more : (j c p : ℕ) (s : State) → 0 < j → legsOf E k j c p s ≡ legsOf E k (j - 1) 2 (k .p2 + c) (bump 2 (37 + c) (E (k .k2 + p)) (nineOf E k c p s))
+  pub legs-more : (j c p : ℕ) (s : State) → 0 < j → legsOf f E k j c p s ≡ legsOf f E k (j - 1) 2 (k .p2 + c) (bump 2 (37 + c) (E (k .k2 + p)) (nineOf f E k c p s))
   unfolding legsOf
   legs-more zero c p s h = absurd (omega arith)
   legs-more (suc j) c p s h =
       let e : j ≡ suc j - 1 = omega arith in
-      ap (λ (i : ℕ). legsOf E k i 2 (k .p2 + c) (bump 2 (37 + c) (E (k .k2 + p)) (nineOf E k c p s))) e
+      ap (λ (i : ℕ). legsOf f E k i 2 (k .p2 + c) (bump 2 (37 + c) (E (k .k2 + p)) (nineOf f E k c p s))) e
 
-  pub legs-none : (c p : ℕ) (s : State) → legsOf E k 0 c p s ≡ nineOf E k c p s
+  pub legs-none : (c p : ℕ) (s : State) → legsOf f E k 0 c p s ≡ nineOf f E k c p s
   unfolding legsOf
   legs-none c p s = refl

@@ -4,7 +4,7 @@ use lib.ListN.{length}
 use Prim.Native.Nat.{ℕ, zero, suc, _+_, _-_, _*_, _≤_, _<_}
 use Rattle.trits.specs.declared.Vector.{Vector}
 use Rattle.tables.specs.Words.{entry}
-use Rattle.cubic_moves.specs.Step.{State, bump, jotOf}
+use Rattle.cubic_moves.specs.Step.{State, bump, noteBy}
 use Rattle.cubic_tables.specs.Order.{keyOf}
 use Rattle.blocks.specs.declared.parts.Part.{Part}
 use Rattle.cubic_blocks.specs.declared.parts.Keys.{Keys}
@@ -39,24 +39,25 @@ pub record Fits (t : List ℕ) (k : Keys) (c p : ℕ) : Type 0 where
   pub low : c ≤ k .p1
   pub pair : p < pairs
 
--- three places below (c, d), where the first has been moved to: p is the number of that pair, E p the triple of 0, c, d
-unfoldable pub threeOf : (ℕ → Vector) → ℕ → ℕ → ℕ → State → State
-threeOf E k0 c p s = jotOf (bump 0 0 (E (k0 + c)) (jotOf (bump 0 c (E (k0 + p)) (jotOf s))))
+-- three places below (c, d), where the first has been moved to, with f of each zero's place listed: p is the number of that pair,
+-- E p the triple of 0, c, d
+unfoldable pub threeOf : (ℕ → ℕ) → (ℕ → Vector) → ℕ → ℕ → ℕ → State → State
+threeOf f E k0 c p s = noteBy f (bump 0 0 (E (k0 + c)) (noteBy f (bump 0 c (E (k0 + p)) (noteBy f s))))
 
 -- three places, and j times a move of slot 1 and three more, below (1, c) and then (1, 1)
-unfoldable pub rowsOf : (ℕ → Vector) → Keys → ℕ → ℕ → ℕ → State → State
-rowsOf E k zero c p s = threeOf E (k .k0) c p s
-rowsOf E k (suc j) c p s = rowsOf E k j 1 (k .p1 + c) (bump 1 (19 + c) (E (k .k1 + p)) (threeOf E (k .k0) c p s))
+unfoldable pub rowsOf : (ℕ → ℕ) → (ℕ → Vector) → Keys → ℕ → ℕ → ℕ → State → State
+rowsOf f E k zero c p s = threeOf f E (k .k0) c p s
+rowsOf f E k (suc j) c p s = rowsOf f E k j 1 (k .p1 + c) (bump 1 (19 + c) (E (k .k1 + p)) (threeOf f E (k .k0) c p s))
 
 -- nine places below (c, d)
-unfoldable pub nineOf : (ℕ → Vector) → Keys → ℕ → ℕ → State → State
-nineOf E k c p s = rowsOf E k 2 c p s
+unfoldable pub nineOf : (ℕ → ℕ) → (ℕ → Vector) → Keys → ℕ → ℕ → State → State
+nineOf f E k c p s = rowsOf f E k 2 c p s
 
 -- nine places, and j times a move of slot 2 and nine more, below (2, c) and then (2, 2)
-unfoldable pub legsOf : (ℕ → Vector) → Keys → ℕ → ℕ → ℕ → State → State
-legsOf E k zero c p s = nineOf E k c p s
-legsOf E k (suc j) c p s = legsOf E k j 2 (k .p2 + c) (bump 2 (37 + c) (E (k .k2 + p)) (nineOf E k c p s))
+unfoldable pub legsOf : (ℕ → ℕ) → (ℕ → Vector) → Keys → ℕ → ℕ → ℕ → State → State
+legsOf f E k zero c p s = nineOf f E k c p s
+legsOf f E k (suc j) c p s = legsOf f E k j 2 (k .p2 + c) (bump 2 (37 + c) (E (k .k2 + p)) (nineOf f E k c p s))
 
 -- 27 places below (c, d)
-abbrev pub bigOf : (ℕ → Vector) → Keys → ℕ → ℕ → State → State
-bigOf E k c p s = legsOf E k 2 c p s
+abbrev pub bigOf : (ℕ → ℕ) → (ℕ → Vector) → Keys → ℕ → ℕ → State → State
+bigOf f E k c p s = legsOf f E k 2 c p s

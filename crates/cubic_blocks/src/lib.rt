@@ -5,7 +5,7 @@ use blocks::Part;
 use cubic_moves::head;
 use cubic_tables::key;
 use cubic_tables::pair;
-use moves::points;
+use moves::Span;
 use trits::Vector;
 ghost use mathlib.Core.Path.{_≡_};
 ghost use mathlib.Core.List.{List, _∷_};
@@ -17,6 +17,7 @@ ghost use Rattle.positions.specs.Positions.{positions};
 ghost use Rattle.walks.specs.Walk.{iterate};
 ghost use Rattle.cubic_tables.specs.Order.{keyOf};
 ghost use Rattle.cubic_tables.specs.Words.{tripleAt};
+ghost use Rattle.moves.specs.Moves.{Offsets, spanOf};
 ghost use Rattle.cubic_moves.specs.Step.{walkOf};
 ghost use Rattle.cubic_moves.specs.Moves.{Sized};
 ghost use Rattle.cubic_blocks.specs.Parts.{whole, keysOf};
@@ -64,7 +65,7 @@ pub fn all_keys(n: usize) -> [usize; 20]
 }
 
 // 27 places, from one above 0 that 27 divides, with the positions b, c and those of 3 to the c times rest. Of the slots from 3 on,
-// others, only slot b moves; kb is its key.
+// others, only slot b moves; kb is its key. Span and low give the points of the block.
 pub fn block27(
     table: &[u64],
     n: usize,
@@ -76,10 +77,13 @@ pub fn block27(
     rest: u64,
     slot: Vector,
     seconds: &mut [u64; 420],
+    s: Span,
+    low: &[u64; 81],
     list: &mut [u64],
 ) -> Turned
     requires { ⌜ Sized (now table) n (3 ^ n) ⌝ }
-    requires { ⌜ (k ≡ keysOf n) × (kb ≡ keyOf n b) ⌝ }
+    requires { ⌜ (k ≡ keysOf n) × (kb ≡ keyOf n b) × (s ≡ spanOf n (x .place)) ⌝ }
+    requires { ⌜ Offsets (now low) ⌝ }
     requires { ⌜ (0 < x .place) × (x .place % 27 ≡ 0) × (x .place + 27 ≤ 3 ^ n) × (positions 3 (x .place) ≡ b ∷ c ∷ positions 3 (3 ^ c * rest)) ⌝ }
     requires { ⌜ (3 ≤ b) × (b ≤ c) × (c < n) × (3 ^ c * rest < 3 ^ n) ⌝ }
     requires { ⌜ (x .found + 27 ≤ length (now list)) × (x .additions + 81 < 2 ^ 64) ⌝ }
@@ -93,7 +97,6 @@ pub fn block27(
     y.value = next;
     y.additions = h.additions;
     let p = pair(n, b, c);
-    let part = big(y, table, k, b, p, seconds, list);
-    points(n, list, x.place, x.found, part.found);
+    let part = big(y, table, k, b, p, seconds, s, low, list);
     Turned { part, slot: up }
 }

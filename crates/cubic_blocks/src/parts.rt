@@ -4,6 +4,7 @@ use blocks::after;
 use blocks::note;
 use blocks::slot;
 use cubic_moves::raised;
+use moves::Span;
 use moves::raise;
 use tables::vector;
 use trits::Vector;
@@ -14,7 +15,8 @@ ghost use lib.ListN.{length};
 ghost use Rattle.trits.specs.declared.Vector.{Vector};
 ghost use Rattle.tables.specs.Words.{entry};
 ghost use Rattle.blocks.specs.Parts.{Went};
-ghost use Rattle.cubic_moves.specs.Step.{jotOf, bump};
+ghost use Rattle.moves.specs.Moves.{Offsets, nearOf, Inside};
+ghost use Rattle.cubic_moves.specs.Step.{noteBy, bump};
 ghost use Rattle.cubic_blocks.specs.Parts.{whole, Fits, threeOf, nineOf, bigOf};
 
 // Where the triples stand: that of 0, 1 or 2 and the pair number p is entry k0, k1 or k2 + p; pair (1, c) is number p1 + c, pair (2, c) p2 + c.
@@ -47,16 +49,19 @@ fn step0(
     e: usize,
     k: usize,
     seconds: &mut [u64; 420],
+    s: Span,
+    low: &[u64; 81],
     list: &mut [u64],
 ) -> Part
     requires { ⌜ (2 * e + 1 < length (now table)) × (k < 210) ⌝ }
-    requires { ⌜ (x .found + 1 ≤ length (now list)) × (x .place + 1 < 2 ^ 64) × (x .additions + 3 < 2 ^ 64) ⌝ }
-    ensures state { λ r. ⌜ ((rest : List Vector) → whole r rest (now (seconds .exit)) (now (list .exit)) ≡ jotOf (bump 0 k (entry (now (table .entry)) e) (whole x rest (now (seconds .entry)) (now (list .entry))))) ⌝ }
+    requires { ⌜ Offsets (now low) ⌝ }
+    requires { ⌜ Inside s (x .place) 1 × (x .found + 1 ≤ length (now list)) × (x .additions + 3 < 2 ^ 64) ⌝ }
+    ensures state { λ r. ⌜ ((rest : List Vector) → whole r rest (now (seconds .exit)) (now (list .exit)) ≡ noteBy (nearOf s) (bump 0 k (entry (now (table .entry)) e) (whole x rest (now (seconds .entry)) (now (list .entry))))) ⌝ }
     ensures went { λ r. ⌜ Went x r 1 3 ⌝ }
 {
     let t = vector(table, e);
     let m = raise_slot(x, 0, k, t, seconds);
-    note(m, list)
+    note(m, s, low, list)
 }
 
 // Three places below (c, d), where the first has been moved to; p is the number of that pair.
@@ -67,18 +72,21 @@ fn three(
     c: usize,
     p: usize,
     seconds: &mut [u64; 420],
+    s: Span,
+    low: &[u64; 81],
     list: &mut [u64],
 ) -> Part
     requires { ⌜ (2 * (k0 + p) + 1 < length (now table)) × (2 * (k0 + c) + 1 < length (now table)) × (c < 210) ⌝ }
-    requires { ⌜ (x .found + 3 ≤ length (now list)) × (x .place + 3 < 2 ^ 64) × (x .additions + 6 < 2 ^ 64) ⌝ }
-    ensures state { λ r. ⌜ ((rest : List Vector) → whole r rest (now (seconds .exit)) (now (list .exit)) ≡ threeOf (entry (now (table .entry))) k0 c p (whole x rest (now (seconds .entry)) (now (list .entry)))) ⌝ }
+    requires { ⌜ Offsets (now low) ⌝ }
+    requires { ⌜ Inside s (x .place) 3 × (x .found + 3 ≤ length (now list)) × (x .additions + 6 < 2 ^ 64) ⌝ }
+    ensures state { λ r. ⌜ ((rest : List Vector) → whole r rest (now (seconds .exit)) (now (list .exit)) ≡ threeOf (nearOf s) (entry (now (table .entry))) k0 c p (whole x rest (now (seconds .entry)) (now (list .entry)))) ⌝ }
     ensures went { λ r. ⌜ Went x r 3 6 ⌝ }
 {
     let first = k0 + p;
     let next = k0 + c;
-    let a = note(x, list);
-    let b = step0(a, table, first, c, seconds, list);
-    step0(b, table, next, 0, seconds, list)
+    let a = note(x, s, low, list);
+    let b = step0(a, table, first, c, seconds, s, low, list);
+    step0(b, table, next, 0, seconds, s, low, list)
 }
 
 // Nine places below (c, d), where the first has been moved to.
@@ -89,11 +97,14 @@ fn nine(
     c: usize,
     p: usize,
     seconds: &mut [u64; 420],
+    s: Span,
+    low: &[u64; 81],
     list: &mut [u64],
 ) -> Part
     requires { ⌜ Fits (now table) k c p ⌝ }
-    requires { ⌜ (x .found + 9 ≤ length (now list)) × (x .place + 9 < 2 ^ 64) × (x .additions + 24 < 2 ^ 64) ⌝ }
-    ensures state { λ r. ⌜ ((rest : List Vector) → whole r rest (now (seconds .exit)) (now (list .exit)) ≡ nineOf (entry (now (table .entry))) k c p (whole x rest (now (seconds .entry)) (now (list .entry)))) ⌝ }
+    requires { ⌜ Offsets (now low) ⌝ }
+    requires { ⌜ Inside s (x .place) 9 × (x .found + 9 ≤ length (now list)) × (x .additions + 24 < 2 ^ 64) ⌝ }
+    ensures state { λ r. ⌜ ((rest : List Vector) → whole r rest (now (seconds .exit)) (now (list .exit)) ≡ nineOf (nearOf s) (entry (now (table .entry))) k c p (whole x rest (now (seconds .entry)) (now (list .entry)))) ⌝ }
     ensures went { λ r. ⌜ Went x r 9 24 ⌝ }
 {
     let mut y = x;
@@ -101,7 +112,7 @@ fn nine(
     let mut q = p;
     let mut left: u32 = 2;
     loop {
-        y = three(y, table, k.k0, at, q, seconds, list);
+        y = three(y, table, k.k0, at, q, seconds, s, low, list);
         if left == 0 {
             return y;
         }
@@ -122,11 +133,14 @@ pub(crate) fn big(
     c: usize,
     p: usize,
     seconds: &mut [u64; 420],
+    s: Span,
+    low: &[u64; 81],
     list: &mut [u64],
 ) -> Part
     requires { ⌜ Fits (now table) k c p ⌝ }
-    requires { ⌜ (x .found + 27 ≤ length (now list)) × (x .place + 27 < 2 ^ 64) × (x .additions + 78 < 2 ^ 64) ⌝ }
-    ensures state { λ r. ⌜ ((rest : List Vector) → whole r rest (now (seconds .exit)) (now (list .exit)) ≡ bigOf (entry (now (table .entry))) k c p (whole x rest (now (seconds .entry)) (now (list .entry)))) ⌝ }
+    requires { ⌜ Offsets (now low) ⌝ }
+    requires { ⌜ Inside s (x .place) 27 × (x .found + 27 ≤ length (now list)) × (x .additions + 78 < 2 ^ 64) ⌝ }
+    ensures state { λ r. ⌜ ((rest : List Vector) → whole r rest (now (seconds .exit)) (now (list .exit)) ≡ bigOf (nearOf s) (entry (now (table .entry))) k c p (whole x rest (now (seconds .entry)) (now (list .entry)))) ⌝ }
     ensures went { λ r. ⌜ Went x r 27 78 ⌝ }
 {
     let mut y = x;
@@ -134,7 +148,7 @@ pub(crate) fn big(
     let mut q = p;
     let mut left: u32 = 2;
     loop {
-        y = nine(y, table, k, at, q, seconds, list);
+        y = nine(y, table, k, at, q, seconds, s, low, list);
         if left == 0 {
             return y;
         }

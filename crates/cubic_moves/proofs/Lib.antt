@@ -1,3 +1,2 @@
 pub mod MoveLaw
 pub mod NearLaw
-pub mod EntryLaw

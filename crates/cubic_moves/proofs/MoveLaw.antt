@@ -34,6 +34,12 @@ lawful f T = record { moved = stays; noted = λ s. add-one (s .place) }
     stays (b ∷ c ∷ []) s = refl
     stays (b ∷ c ∷ d ∷ ps) s = refl
 
+-- what is noted goes by the place alone
+pub note-same : (f g : ℕ → ℕ) (s : State) → f (s .place) ≡ g (s .place) → noteBy f s ≡ noteBy g s
+unfolding noteBy
+note-same f g s e =
+    ap (λ (x : ℕ). record { place = s .place + 1; value = s .value; slots = s .slots; seconds = s .seconds; additions = s .additions; found = foundOf (isZero (s .value)) (s .found); list = listOf (isZero (s .value)) x (s .found) (s .list) }) e
+
 -- ---- positions from what is left of a place
 some : (c r : ℕ) → 0 < r → 0 < 3 ^ c * r
 some c r h = omega (arith, mul-le-mul-left (3 ^ c) h, one-le-pow c 3 (omega arith))

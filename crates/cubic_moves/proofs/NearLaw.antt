@@ -2,7 +2,7 @@
 use mathlib.Core.Path.{_≡_, refl, ap, _∙_}
 use mathlib.Core.Bool.{Bool, true, not, _&&_}
 use mathlib.Core.List.{List, [], _∷_}
-use Prim.Native.Nat.{ℕ, _+_, _*_, _^_, _≤_, _<_}
+use Prim.Native.Nat.{ℕ, _+_, _-_, _*_, _^_, _≤_, _<_}
 use native.Mathlib.Omega.{arith}
 use lib.Dec.{eqb}
 use lib.ListN.{length}
@@ -17,7 +17,9 @@ use Rattle.cubic_moves.specs.Step.{State, push, lift, bump, moveOf, note
 use Rattle.cubic_tables.specs.Words.{tripleAt}
 use Rattle.cubic_moves.specs.Moves.{Sized}
 use Rattle.walks.proofs.SearchLaw.{Near}
-use Rattle.walks.proofs.WalkedLaw.{Walked, Sound, Goes, goes-on}
+use Rattle.walks.proofs.WalkedLaw.{Walked, Sound, Goes}
+use Rattle.moves.specs.Moves.{Reaches}
+use Rattle.moves.proofs.StopLaw.{goes-on}
 
 abbrev pub counts : Counts State
 counts = record { additions = λ s. s .additions; found = λ s. s .found; list = λ s. s .list }
@@ -52,13 +54,6 @@ module _ (f : ℕ → ℕ) (T : ℕ → ℕ → ℕ → Vector) where
         list = list-length (isZero (u .value)) (f (u .place)) (u .found) (u .list) ∙ ap length (m .list);
       }
 
--- nothing found is lost
-pub step-more : (f : ℕ → ℕ) (T : ℕ → ℕ → ℕ → Vector) (s : State) → s .found ≤ (stepOf 3 (walkBy f T) s) .found
-unfolding stepOf noteBy
-step-more f T s =
-    let u = moveOf T (positions 3 (s .place)) s in
-    omega (arith, move-near f T (positions 3 (s .place)) s .found, found-le (isZero (u .value)) (u .found) .1)
-
 -- what a turn of the loop over single places may count on
 module _ (t : List ℕ) (n e : ℕ) (z : Sized t n e) where
   pub record Turns (k : ℕ) (s : State) : Type 0 where
@@ -68,10 +63,10 @@ module _ (t : List ℕ) (n e : ℕ) (z : Sized t n e) where
     pub count : s .additions + 3 < 2 ^ 64
     pub end : e ≤ 3486784401
 
-  pub turns : (budget left k : ℕ) (s₀ s : State) (b : Bool) → Walked 3 (walkOf n (tripleAt t n)) counts 3 e budget left s₀ s → k ≡ length (s₀ .list)
-      → b ≡ (not (eqb left 0) && not (eqb (s .place) e) && not (eqb (s .found) k)) → b ≡ true → Turns left s
-  turns budget left k s₀ s b w h f i =
-      let g = goes-on 3 (walkOf n (tripleAt t n)) counts 3 e budget left k s₀ s b w h f i in
+  pub turns : (budget stop k : ℕ) (s₀ s : State) (b : Bool) → Walked 3 (walkOf n (tripleAt t n)) counts 3 e budget (s₀ .place + budget - s .place) s₀ s → k ≡ length (s₀ .list)
+      → Reaches e budget (s₀ .place) stop → b ≡ (not (eqb (s .place) stop) && not (eqb (s .found) k)) → b ≡ true → Turns (s₀ .place + budget - s .place) s
+  turns budget stop k s₀ s b w h o f i =
+      let g = goes-on 3 (walkOf n (tripleAt t n)) counts 3 e budget stop k s₀ s w h o b f i in
       let u = end-small n (z .small) in
       let p : s .place < 3 ^ n = omega (arith, g .place, z .end) in
       record {

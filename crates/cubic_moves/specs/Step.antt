@@ -84,10 +84,6 @@ noteBy f s =
       list = listOf (isZero (s .value)) (f (s .place)) (s .found) (s .list);
     }
 
--- inside a block a zero is listed as its place; the block's end turns the places into points
-abbrev pub jotOf : State → State
-jotOf s = noteBy (λ p. p) s
-
 -- the walk over the triples T, with f of each zero's place listed
 abbrev pub walkBy : (ℕ → ℕ) → (ℕ → ℕ → ℕ → Vector) → Walk State
 walkBy f T = record { place = λ s. s .place; move = moveOf T; note = noteBy f }

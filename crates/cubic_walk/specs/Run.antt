@@ -1,4 +1,5 @@
 -- The search: the cubic walk up to its end, a full list or a spent budget.
+use mathlib.Core.Path.{_≡_}
 use mathlib.Core.Bool.{Bool, _||_}
 use mathlib.Core.List.{List}
 use Prim.Native.Nat.{ℕ, _*_, _≤_}
@@ -6,6 +7,7 @@ use lib.Dec.{eqb}
 use lib.ListN.{length, getD}
 use Rattle.trits.specs.Trit.{none}
 use Rattle.walks.specs.Walk.{runOf}
+use Rattle.moves.specs.Moves.{keptPoint}
 use Rattle.cubic_moves.specs.Step.{State, walkOf}
 use Rattle.cubic_tables.specs.Words.{tripleAt}
 use Rattle.blocks.specs.declared.parts.Part.{Part}
@@ -38,11 +40,12 @@ haltOf e s = eqb (s .place) e || eqb (s .found) (length (s .list))
 abbrev pub searchOf : List ℕ → ℕ → ℕ → ℕ → State → State
 searchOf t n e = runOf 3 (walkOf n (tripleAt t n)) (haltOf e)
 
--- the numbers of a walker with its counts are within their ends
-pub record Sane (e : ℕ) (r : Ran) (l : List ℕ) : Type 0 where
+-- the numbers of a walker with its counts are within their ends, and it keeps the point of its value
+pub record Sane (n e : ℕ) (r : Ran) (l : List ℕ) : Type 0 where
   pub place : r .walker .place ≤ e
   pub found : r .found ≤ length l
   pub additions : r .additions ≤ 3 * r .walker .place
+  pub point : r .walker .point ≡ keptPoint n (r .walker .place)
 
 -- the parts of a walker with its counts
 abbrev pub partOf : Ran → Part

@@ -1,3 +1,6 @@
 pub mod MoveLaw
 pub mod NearLaw
-pub mod EntryLaw
+pub mod PointLaw
+pub mod SpanLaw
+pub mod SameLaw
+pub mod StopLaw

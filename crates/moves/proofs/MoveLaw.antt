@@ -31,6 +31,12 @@ lawful f T = record { moved = stays; noted = λ s. add-one (s .place) }
     stays (b ∷ []) s = refl
     stays (b ∷ c ∷ ps) s = refl
 
+-- what is noted goes by the place alone
+pub note-same : (f g : ℕ → ℕ) (s : State) → f (s .place) ≡ g (s .place) → noteBy f s ≡ noteBy g s
+unfolding noteBy
+note-same f g s e =
+    ap (λ (x : ℕ). record { place = s .place + 1; value = s .value; slots = s .slots; additions = s .additions; found = foundOf (isZero (s .value)) (s .found); list = listOf (isZero (s .value)) x (s .found) (s .list) }) e
+
 module _ (n : ℕ) (T : ℕ → ℕ → Vector) where
   -- place 0 moves nothing
   pub head-none : (p b : ℕ) (s : State) (r : Moved) → p ≡ 0
@@ -84,7 +90,7 @@ alone p b e = omega arith
 pub above : (p b r : ℕ) → p ≡ 3 ^ b * r → 0 < r → 0 < p
 above p b r e h = omega (arith, mul-le-mul-left (3 ^ b) h, one-le-pow b 3 (omega arith))
 
-low-none : lowestOf 3 0 ≡ 0
+pub low-none : lowestOf 3 0 ≡ 0
 unfolding lowestOf lowestIn
 low-none = refl
 

@@ -18,7 +18,6 @@ use Rattle.moves.specs.Step.{State, push, lift, bump, moveOf, noteBy, wa
 pub record Near (s r : State) (k : ℕ) : Type 0 where
   pub place : r .place ≡ s .place + k
   pub found : r .found ≤ s .found + k
-  pub more : s .found ≤ r .found
   pub additions : r .additions ≤ s .additions + 2 * k
   pub slots : length (r .slots) ≡ length (s .slots)
   pub list : length (r .list) ≡ length (s .list)
@@ -55,7 +54,6 @@ module _ (f : ℕ → ℕ) (T : ℕ → ℕ → Vector) where
       record {
         place = omega (arith, m .place);
         found = omega (arith, m .found, g);
-        more = omega (arith, m .found, g);
         additions = m .additions;
         slots = m .slots;
         list = list-length (isZero (u .value)) (f (u .place)) (u .found) (u .list) ∙ ap length (m .list);
@@ -63,14 +61,13 @@ module _ (f : ℕ → ℕ) (T : ℕ → ℕ → Vector) where
 
   pub iterate-near : (k : ℕ) (s : State) → Near s (iterate 3 (walkBy f T) k s) k
   unfolding iterate
-  iterate-near zero s = record { place = omega arith; found = omega arith; more = omega arith; additions = omega arith; slots = refl; list = refl }
+  iterate-near zero s = record { place = omega arith; found = omega arith; additions = omega arith; slots = refl; list = refl }
   iterate-near (suc k) s =
       let m = step-near s in
       let r = iterate-near k (stepOf 3 (walkBy f T) s) in
       record {
         place = omega (arith, m .place, r .place);
         found = omega (arith, m .found, r .found);
-        more = omega (arith, m .more, r .more);
         additions = omega (arith, m .additions, r .additions);
         slots = r .slots ∙ m .slots;
         list = r .list ∙ m .list;

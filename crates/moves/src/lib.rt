@@ -1,6 +1,5 @@
-// One place of the walk over all points in Gray order: one addition, one move, and what is noted of a value.
+// One place of the walk over all points in Gray order: one addition, one move, the point of the place, and what is noted of a value.
 // Contracts cite specs/Step (what one place does) and specs/Moves (what the code of a move holds).
-use gray::Place;
 use trits::Vector;
 ghost use mathlib.Core.Path.{_≡_};
 ghost use Prim.Native.Nat.{_+_, _-_, _*_, _^_, _<_, _≤_};
@@ -10,7 +9,7 @@ ghost use Rattle.trits.specs.Words.{addOf, isZero};
 ghost use Rattle.positions.specs.Positions.{lowestOf, positions};
 ghost use Rattle.gray.specs.Numbers.{pointOf};
 ghost use Rattle.moves.specs.Step.{State, moveOf, foundOf, listOf};
-ghost use Rattle.moves.specs.Moves.{product, Sized, headed, turnedIn};
+ghost use Rattle.moves.specs.Moves.{product, Sized, headed, keptPoint, Offsets, spanOf, nearOf, Inside};
 
 // A sum, and the additions with it.
 pub struct Sum {
@@ -53,68 +52,110 @@ pub fn raise(slot: Vector, value: Vector, t: Vector, additions: u64) -> Moved
     }
 }
 
-// How many are found after a value at a place; the point of a zero is written at the first free entry of list.
-pub fn mark(n: usize, value: Vector, place: u64, found: usize, list: &mut [u64]) -> usize
-    requires { ⌜ (n ≤ 20) × (found < length (now list)) ⌝ }
-    ensures count { λ r. ⌜ r ≡ foundOf (isZero value) found ⌝ }
-    ensures list { λ _. ⌜ now (list .exit) ≡ listOf (isZero value) (pointOf 3 n place) found (now (list .entry)) ⌝ }
-    ensures bound { λ r. ⌜ (found ≤ r) × (r ≤ found + 1) ⌝ }
-{
-    if trits::is_zero(value) {
-        let point = gray::point_at(n as u64, Place(place));
-        list[found] = point.0;
-        found + 1
-    } else {
-        found
-    }
+// The block of 27 places that a place stands in: the point of its number, and the multiple of 81 at or below it. With the offsets
+// it gives the points of all its places.
+pub struct Span {
+    pub high: u64,
+    pub origin: u64,
 }
 
-// The same with the place itself: inside a block nothing is divided.
-pub fn jot(value: Vector, place: u64, found: usize, list: &mut [u64]) -> usize
-    requires { ⌜ found < length (now list) ⌝ }
-    ensures count { λ r. ⌜ r ≡ foundOf (isZero value) found ⌝ }
-    ensures list { λ _. ⌜ now (list .exit) ≡ listOf (isZero value) place found (now (list .entry)) ⌝ }
-    ensures bound { λ r. ⌜ (found ≤ r) × (r ≤ found + 1) ⌝ }
+// The three lowest digits of the points of places 0 to 80, as numbers; those of another place are those of its remainder by 81.
+pub fn offsets() -> [u64; 81]
+    ensures { λ r. ⌜ Offsets r ⌝ }
 {
-    if trits::is_zero(value) {
-        list[found] = place;
-        found + 1
-    } else {
-        found
-    }
+    [
+        0, 1, 2, 5, 3, 4, 7, 8, 6, 15, 16, 17, 11, 9, 10, 13, 14, 12, 21, 22, 23, 26, 24, 25, 19, 20, 18,
+        18, 19, 20, 23, 21, 22, 25, 26, 24, 6, 7, 8, 2, 0, 1, 4, 5, 3, 12, 13, 14, 17, 15, 16, 10, 11, 9,
+        9, 10, 11, 14, 12, 13, 16, 17, 15, 24, 25, 26, 20, 18, 19, 22, 23, 21, 3, 4, 5, 8, 6, 7, 1, 2, 0,
+    ]
 }
 
-// The point of a place, quickly where it stands in the block of 27 places with number top: points of a block differ in three
-// digits, and high is what they have in common.
-fn point_near(n: usize, place: u64, top: u64, high: u64) -> u64
-    requires { ⌜ (3 ≤ n) × (n ≤ 20) × (high ≡ 27 * pointOf 3 (n - 3) top) ⌝ }
+// The place before, and 0 before place 0.
+pub fn before(place: u64) -> u64
+    ensures { λ r. ⌜ r ≡ place - 1 ⌝ }
+{
+    if place == 0 {
+        return 0;
+    }
+    place - 1
+}
+
+// The point of a place above 0, which is 3 to its first position b, times rest, from that of the place before: digit b is one more
+// modulo 3. It becomes 0 where the place's digits at b and above it are equal, 11 or 22: rest leaves 4 or 8 by 9.
+pub fn stepped(n: usize, place: u64, b: usize, rest: u64, point: u64) -> u64
+    requires { ⌜ (n ≤ 20) × (0 < place) × (place < 3 ^ n) × (b ≡ lowestOf 3 place) × (place ≡ 3 ^ b * rest) × (point ≡ keptPoint n place) ⌝ }
     ensures { λ r. ⌜ r ≡ pointOf 3 n place ⌝ }
 {
-    if place / 27 == top {
-        let low = gray::point_at(3, Place(place));
-        return low.0 + high;
+    let weight = positions::power(b as u64);
+    if rest % 9 % 4 == 0 {
+        return point - 2 * weight;
     }
-    let point = gray::point_at(n as u64, Place(place));
-    point.0
+    point + weight
 }
 
-// The places listed in entries from `from` to before `to`, likely of the block of the given place, become their points.
-pub fn points(n: usize, list: &mut [u64], place: u64, from: usize, to: usize)
-    requires { ⌜ (3 ≤ n) × (n ≤ 20) × (to ≤ length (now list)) ⌝ }
-    ensures { λ _. ⌜ now (list .exit) ≡ turnedIn (pointOf 3 n) from (to - from) (now (list .entry)) ⌝ }
+// The block of a place, from its point.
+pub fn span_of(n: usize, place: u64, point: u64) -> Span
+    requires { ⌜ (place < 3 ^ n) × (point ≡ pointOf 3 n place) ⌝ }
+    ensures { λ r. ⌜ r ≡ spanOf n place ⌝ }
 {
-    if from >= to {
-        return;
+    let high = point / 27;
+    Span {
+        high,
+        origin: place - place % 81,
     }
-    let top = place / 27;
-    let first = gray::point_at((n - 3) as u64, Place(top));
-    let high = 27 * first.0;
-    let mut i = from;
-    while i < to {
-        let at = list[i];
-        let point = point_near(n, at, top, high);
-        list[i] = point;
-        i += 1;
+}
+
+// The block of a place, which is 3 to its first position b, times rest, from that of the place before.
+pub fn span_at(n: usize, s: Span, place: u64, b: usize, rest: u64) -> Span
+    requires { ⌜ (n ≤ 20) × (place < 3 ^ n) × (b ≡ lowestOf 3 place) × (place ≡ 3 ^ b * rest) × (s ≡ spanOf n (place - 1)) ⌝ }
+    ensures { λ r. ⌜ r ≡ spanOf n place ⌝ }
+{
+    if b < 3 {
+        return s;
+    }
+    let high = stepped(n, place / 27, b - 3, rest, s.high);
+    if b == 3 {
+        return Span {
+            high,
+            origin: s.origin,
+        };
+    }
+    Span {
+        high,
+        origin: place,
+    }
+}
+
+// The point of a place of a block.
+pub fn near(s: Span, low: &[u64; 81], place: u64) -> u64
+    requires { ⌜ Offsets (now low) × Inside s place 1 ⌝ }
+    ensures { λ r. ⌜ r ≡ nearOf s place ⌝ }
+{
+    let at = (place - s.origin) as usize;
+    let digits = low[at];
+    27 * s.high + digits
+}
+
+// How many are found after a value at a place of a block; the point of a zero is written at the first free entry of list.
+pub fn mark(
+    value: Vector,
+    s: Span,
+    low: &[u64; 81],
+    place: u64,
+    found: usize,
+    list: &mut [u64],
+) -> usize
+    requires { ⌜ Offsets (now low) × Inside s place 1 × (found < length (now list)) ⌝ }
+    ensures count { λ r. ⌜ r ≡ foundOf (isZero value) found ⌝ }
+    ensures list { λ _. ⌜ now (list .exit) ≡ listOf (isZero value) (nearOf s place) found (now (list .entry)) ⌝ }
+    ensures bound { λ r. ⌜ (found ≤ r) × (r ≤ found + 1) ⌝ }
+{
+    if trits::is_zero(value) {
+        let point = near(s, low, place);
+        list[found] = point;
+        found + 1
+    } else {
+        found
     }
 }
 

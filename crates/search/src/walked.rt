@@ -1,6 +1,7 @@
 // The walk of a call that nothing refuses, by the degree of its table.
 use given::Degree;
 use gray::Place;
+use moves::before;
 use opening::Record;
 ghost use mathlib.Core.Path.{_≡_};
 ghost use mathlib.Core.Bool.{true};
@@ -32,10 +33,12 @@ fn walked_two(
     let value = r.value;
     let slots = r.slots;
     let seconds = r.seconds;
+    let point = gray::point_at(n, Place(before(r.place.0)));
     let w = walk::Walker {
         place: r.place.0,
         value,
         slots,
+        point: point.0,
     };
     let t = walk::run(table, n as usize, end, w, budget, list);
     let last = t.walker;
@@ -71,11 +74,13 @@ fn walked_three(
     let value = s.value;
     let slots = s.slots;
     let seconds = s.seconds;
+    let point = gray::point_at(n, Place(before(s.place.0)));
     let w = cubic_walk::Walker {
         place: s.place.0,
         value,
         slots,
         seconds,
+        point: point.0,
     };
     let t = cubic_walk::run(table, n as usize, end, w, budget, list);
     let left = t.walker;

@@ -13,10 +13,12 @@ use Rattle.walks.specs.Walk.{iterate}
 use Rattle.moves.specs.Step.{State, walkOf}
 use Rattle.blocks.specs.Parts.{whole}
 use Rattle.walk.specs.Run.{partOf, stateOf, searchOf, Sane}
-use Rattle.moves.specs.Moves.{product, Sized}
+use Rattle.moves.specs.Moves.{product, Sized, keptPoint, spanOf, nearOf}
 use Rattle.walk.specs.declared.Ran.{Ran}
 use Rattle.blocks.specs.declared.parts.Part.{Part}
+use Rattle.moves.specs.declared.Span.{Span}
 use Rattle.moves.proofs.MoveLaw.{two, end-small}
+use Rattle.moves.proofs.SpanLaw.{span-same, near-kept}
 use Rattle.blocks.proofs.PartLaw.{lift27, split3}
 use Rattle.walk.proofs.WalkedLaw.{Walked, walked-none, walked-more}
 
@@ -26,11 +28,12 @@ apart r l h =
     ap (λ (v : List Vector). record { place = r .walker .place; value = r .walker .value; slots = v; additions = r .additions; found = r .found; list = l })
     (split3 (r .walker .slots) h)
 
-pub record Kept (t : List ℕ) (n e budget left : ℕ) (l₀ l : List ℕ) (v₀ v : List Vector) (x₀ x : Part) : Type 0 where
+pub record Kept (t : List ℕ) (n e budget left : ℕ) (l₀ l : List ℕ) (v₀ v : List Vector) (x₀ x : Part) (p : Span) : Type 0 where
   pub size : length v ≡ 20
   pub above : 0 < x .place
   pub aligned : x .place % 27 ≡ 0
   pub walked : Walked t n e budget left (whole x₀ (drop 3 v₀) l₀) (whole x (drop 3 v) l)
+  pub span : p ≡ spanOf n (x .place - 1)
 
 -- what a block may count on: its first position b, and what is left of its place
 pub record Fits (n : ℕ) (x : Part) (b r : ℕ) : Type 0 where
@@ -41,11 +44,11 @@ pub record Fits (n : ℕ) (x : Part) (b r : ℕ) : Type 0 where
   pub count : x .additions + 54 < 2 ^ 64
   pub end : x .place + 27 ≤ 3 ^ n
 
-module _ (t : List ℕ) (n e : ℕ) (z : Sized t n e) where
+module _ (t : List ℕ) (n e : ℕ) (sized : Sized t n e) where
   -- the loop begins
-  pub kept-none : (budget : ℕ) (r : Ran) (l : List ℕ) → length (r .walker .slots) ≡ 20 → Sane e r l → 0 < r .walker .place → r .walker .place % 27 ≡ 0
-      → Kept t n e budget budget l l (r .walker .slots) (r .walker .slots) (partOf r) (partOf r)
-  kept-none budget r l k s a m =
+  pub kept-none : (budget : ℕ) (r : Ran) (l : List ℕ) (p : Span) → length (r .walker .slots) ≡ 20 → Sane n e r l → 0 < r .walker .place → r .walker .place % 27 ≡ 0
+      → p ≡ spanOf n (r .walker .place - 1) → Kept t n e budget budget l l (r .walker .slots) (r .walker .slots) (partOf r) (partOf r) p
+  kept-none budget r l p k s a m o =
       record {
         size = k;
         above = a;
@@ -53,48 +56,56 @@ module _ (t : List ℕ) (n e : ℕ) (z : Sized t n e) where
         walked =
             walked-none t n e budget (whole (partOf r) (drop 3 (r .walker .slots)) l)
             (omega (arith, length-drop 3 (r .walker .slots))) (s .place) (s .found) (s .additions);
+        span = o;
       }
 
-  module _ {budget left : ℕ} {l₀ l : List ℕ} {v₀ v : List Vector} {x₀ x : Part} (k : Kept t n e budget left l₀ l v₀ v x₀ x) (far : x .place + 27 ≤ e) where
+  module _ {budget left : ℕ} {l₀ l : List ℕ} {v₀ v : List Vector} {x₀ x : Part} {p : Span} (k : Kept t n e budget left l₀ l v₀ v x₀ x p) (far : x .place + 27 ≤ e) where
     pub fits : (i r : ℕ) → i ≡ lowestOf 3 (x .place / 27) → x .place / 27 ≡ 3 ^ i * r → Fits n x (i + 3) r
     fits i r f g =
         let u = lift27 (x .place) i r (k .above) (k .aligned) f g in
-        let h : lowestOf 3 (x .place) < n = of-lt 3 two n (x .place) (k .above) (omega (arith, z .end)) in
-        let s = end-small n (z .small) in
+        let h : lowestOf 3 (x .place) < n = of-lt 3 two n (x .place) (k .above) (omega (arith, sized .end)) in
+        let s = end-small n (sized .small) in
         record {
           first = u .0;
           whole = u .1;
           low = omega (arith, u .0);
           three = omega arith;
-          count = omega (arith, k .walked .additions, z .end);
-          end = omega (arith, z .end);
+          count = omega (arith, k .walked .additions, sized .end);
+          end = omega (arith, sized .end);
         }
 
     -- a block more
-    pub kept-more : 27 ≤ left → x .found + 27 ≤ length l → (b : ℕ) → b ≡ lowestOf 3 (x .place) → 3 ≤ b → b < n → (y : Part) (u : Vector) (l' : List ℕ)
+    pub kept-more : 27 ≤ left → x .found + 27 ≤ length l → (b : ℕ) → b ≡ lowestOf 3 (x .place) → 3 ≤ b → b < n → (y : Part) (u : Vector) (l' : List ℕ) (o : Span) → o ≡ spanOf n (x .place)
         → ((rest : List Vector) → getD rest (b - 3) none ≡ getD v b none → b - 3 < length rest
         → whole y (set rest (b - 3) u) l' ≡ iterate 3 (walkOf n (product t n)) 27 (whole x rest l))
-        → Kept t n e budget (left - 27) l₀ l' v₀ (set v b u) x₀ y
-    kept-more room free b eb tb lb y u l' f =
+        → Kept t n e budget (left - 27) l₀ l' v₀ (set v b u) x₀ y o
+    kept-more room free b eb tb lb y u l' o eo f =
         let j : 3 + (b - 3) ≡ b = omega arith in
         let d : drop 3 (set v b u) ≡ set (drop 3 v) (b - 3) u = ap (λ (m : ℕ). drop 3 (set v m u)) (sym j) ∙ drop-set-add 3 v (b - 3) u in
         let g : getD (drop 3 v) (b - 3) none ≡ getD v b none = getD-drop 3 v (b - 3) none ∙ ap (λ (m : ℕ). getD v m none) j in
-        let s = f (drop 3 v) g (omega (arith, length-drop 3 v, k .size, z .small)) in
+        let s = f (drop 3 v) g (omega (arith, length-drop 3 v, k .size, sized .small)) in
         let i = ap (λ (w : List Vector). whole y w l') d ∙ s in
         let w = walked-more t n e 27 budget left _ _ _ (k .walked) room far free i in
         let p : y .place ≡ x .place + 27 = omega (arith, w .went, k .walked .went) in
-        record { size = length-set v b u ∙ k .size; above = omega arith; aligned = omega (arith, k .aligned); walked = w }
+        let c = k .aligned in
+        record {
+          size = length-set v b u ∙ k .size;
+          above = omega arith;
+          aligned = omega arith;
+          walked = w;
+          span = eo ∙ span-same n (x .place) (y .place - 1) (omega arith);
+        }
 
   -- the loop ends: the walker q is put together again
   pub record Done (budget : ℕ) (r q : Ran) (l₀ l : List ℕ) : Type 0 where
     pub state : searchOf t n e (budget - (q .walker .place - r .walker .place)) (stateOf q l) ≡ searchOf t n e budget (stateOf r l₀)
-    pub sane : Sane e q l
+    pub sane : Sane n e q l
     pub from : r .walker .place ≤ q .walker .place
     pub most : q .walker .place ≤ r .walker .place + budget
 
-  pub kept-done : {budget left : ℕ} {l₀ l : List ℕ} {v : List Vector} {x₀ x : Part} (r q : Ran) → length (r .walker .slots) ≡ 20 → x₀ ≡ partOf r
-      → Kept t n e budget left l₀ l (r .walker .slots) v x₀ x → stateOf q l ≡ whole x (drop 3 v) l → Done budget r q l₀ l
-  kept-done {budget} {left} {l₀} {l} {v} {x₀} {x} r q h o k c =
+  pub kept-done : {budget left : ℕ} {l₀ l : List ℕ} {v : List Vector} {x₀ x : Part} {z : Span} (r q : Ran) → length (r .walker .slots) ≡ 20 → x₀ ≡ partOf r
+      → Kept t n e budget left l₀ l (r .walker .slots) v x₀ x z → stateOf q l ≡ whole x (drop 3 v) l → q .walker .point ≡ nearOf z (x .place - 1) → Done budget r q l₀ l
+  kept-done {budget} {left} {l₀} {l} {v} {x₀} {x} {z} r q h o k c y =
       let w = k .walked in
       let p : q .walker .place ≡ x .place = ap (λ (s : State). s .place) c in
       let b : x₀ .place ≡ r .walker .place = ap (λ (y : Part). y .place) o in
@@ -108,7 +119,13 @@ module _ (t : List ℕ) (n e : ℕ) (z : Sized t n e) where
             ap (λ (i : ℕ). searchOf t n e i (stateOf q l)) j ∙ ap (searchOf t n e left) c ∙ w .state
             ∙ ap (λ (y : Part). searchOf t n e budget (whole y (drop 3 (r .walker .slots)) l₀)) o
             ∙ ap (searchOf t n e budget) (sym (apart r l₀ (omega arith)));
-        sane = record { place = omega (arith, w .place); found = omega (arith, w .found); additions = omega (arith, w .additions) };
+        sane =
+            record {
+              place = omega (arith, w .place);
+              found = omega (arith, w .found);
+              additions = omega (arith, w .additions);
+              point = y ∙ near-kept n (x .place) z (omega (arith, w .place, sized .end, k .above)) (k .span) ∙ ap (keptPoint n) (sym p);
+            };
         from = omega arith;
         most = omega arith;
       }

@@ -11,11 +11,12 @@ use Rattle.walks.specs.Walk.{Walk, stepOf, iterate}
 use Rattle.gray.specs.Numbers.{pointOf}
 use Rattle.moves.specs.Step.{State, walkOf}
 use Rattle.positions.specs.Positions.{lowestOf}
-use Rattle.moves.specs.Moves.{product, Sized}
+use Rattle.moves.specs.Moves.{product, Sized, Reaches}
 use Rattle.walk.specs.Run.{searchOf}
 use Rattle.moves.proofs.MoveLaw.{end-small, first-lt}
-use Rattle.moves.proofs.NearLaw.{iterate-near, counts, near}
+use Rattle.moves.proofs.NearLaw.{step-near, iterate-near, counts, near}
 use Rattle.walks.proofs.WalkedLaw as law
+use Rattle.moves.proofs.StopLaw as stops
 
 -- a state from what the code holds of it
 abbrev pub stateBy : ℕ → Vector → List Vector → ℕ → ℕ → List ℕ → State
@@ -63,6 +64,10 @@ module _ (t : List ℕ) (n e : ℕ) where
   pub walked-none : (k : ℕ) (s : State) → length (s .slots) ≡ 20 → s .place ≤ e → s .found ≤ length (s .list) → s .additions ≤ 2 * s .place → Walked t n e k k s s
   walked-none k s a b c d = this a (law.walked-none 3 W counts 2 e k s record { place = b; found = c; additions = d })
 
+  -- the same for a loop that stops before a place fixed at its beginning
+  pub walked-begin : (k : ℕ) (s : State) → length (s .slots) ≡ 20 → s .place ≤ e → s .found ≤ length (s .list) → s .additions ≤ 2 * s .place → Walked t n e k (s .place + k - s .place) s s
+  walked-begin k s a b c d = this a (stops.walked-begin 3 W counts 2 e k s record { place = b; found = c; additions = d })
+
   -- k places more, where there is room for them
   pub walked-more : (k budget left : ℕ) (s₀ s r : State) → Walked t n e budget left s₀ s → k ≤ left → s .place + k ≤ e → s .found + k ≤ length (s .list)
       → r ≡ iterate 3 (walkOf n (product t n)) k s → Walked t n e budget (left - k) s₀ r
@@ -79,10 +84,10 @@ module _ (t : List ℕ) (n e : ℕ) where
     pub count : s .additions + 2 < 2 ^ 64
     pub end : e ≤ 3486784401
 
-  pub goes-on : (budget left k : ℕ) (s₀ s : State) (b : Bool) → Sized t n e → Walked t n e budget left s₀ s → k ≡ length (s₀ .list)
-      → b ≡ (not (eqb left 0) && not (eqb (s .place) e) && not (eqb (s .found) k)) → b ≡ true → Goes left s
-  goes-on budget left k s₀ s b z w h g i =
-      let y = law.goes-on 3 W counts 2 e budget left k s₀ s b (any w) h g i in
+  pub goes-on : (budget stop k : ℕ) (s₀ s : State) (b : Bool) → Sized t n e → Walked t n e budget (s₀ .place + budget - s .place) s₀ s → k ≡ length (s₀ .list)
+      → Reaches e budget (s₀ .place) stop → b ≡ (not (eqb (s .place) stop) && not (eqb (s .found) k)) → b ≡ true → Goes (s₀ .place + budget - s .place) s
+  goes-on budget stop k s₀ s b z w h o g i =
+      let y = stops.goes-on 3 W counts 2 e budget stop k s₀ s (any w) h o b g i in
       let u = end-small n (z .small) in
       let p = y .place in
       record {
@@ -95,12 +100,14 @@ module _ (t : List ℕ) (n e : ℕ) where
       }
 
   -- the end of that loop
-  pub goes-no-more : (budget left k : ℕ) (s₀ s : State) (b : Bool) → Walked t n e budget left s₀ s → k ≡ length (s₀ .list)
-      → b ≡ (not (eqb left 0) && not (eqb (s .place) e) && not (eqb (s .found) k)) → b ≡ false → s ≡ searchOf t n e budget s₀
-  goes-no-more budget left k s₀ s b w h g i = law.goes-no-more 3 W counts 2 e budget left k s₀ s b (any w) h g i
+  pub goes-no-more : (budget stop k : ℕ) (s₀ s : State) (b : Bool) → Walked t n e budget (s₀ .place + budget - s .place) s₀ s → k ≡ length (s₀ .list)
+      → Reaches e budget (s₀ .place) stop → b ≡ (not (eqb (s .place) stop) && not (eqb (s .found) k)) → b ≡ false → s ≡ searchOf t n e budget s₀
+  goes-no-more budget stop k s₀ s b w h o g i = stops.goes-no-more 3 W counts 2 e budget stop k s₀ s (any w) h o b g i
 
   -- one place more
-  pub walked-one : (budget left : ℕ) (s₀ s r : State) → Walked t n e budget left s₀ s → Goes left s
-      → r ≡ stepOf 3 (walkOf n (product t n)) s → Walked t n e budget (left - 1) s₀ r
-  unfolding iterate
-  walked-one budget left s₀ s r w g i = walked-more 1 budget left s₀ s r w (omega (arith, g .left)) (omega (arith, g .place)) (omega (arith, g .found)) i
+  pub walked-one : (budget : ℕ) (s₀ s r : State) → Walked t n e budget (s₀ .place + budget - s .place) s₀ s → Goes (s₀ .place + budget - s .place) s
+      → r ≡ stepOf 3 (walkOf n (product t n)) s → Walked t n e budget (s₀ .place + budget - r .place) s₀ r
+  walked-one budget s₀ s r w g i =
+      let m = step-near (pointOf 3 n) (product t n) s in
+      this (ap (λ (x : State). length (x .slots)) i ∙ m .slots ∙ w .size)
+      (stops.walked-next 3 W counts 2 (near n (product t n)) e budget s₀ s r (any w) record { left = g .left; place = g .place; found = g .found } i)

@@ -1,4 +1,5 @@
 -- The search: the walk up to its end, a full list or a spent budget.
+use mathlib.Core.Path.{_≡_}
 use mathlib.Core.Bool.{Bool, _||_}
 use mathlib.Core.List.{List}
 use Prim.Native.Nat.{ℕ, _*_, _≤_}
@@ -8,7 +9,7 @@ use Rattle.trits.specs.Trit.{none}
 use Rattle.walks.specs.Walk.{runOf}
 use Rattle.blocks.specs.declared.parts.Part.{Part}
 use Rattle.moves.specs.Step.{State, walkOf}
-use Rattle.moves.specs.Moves.{product}
+use Rattle.moves.specs.Moves.{product, keptPoint}
 use Rattle.walk.specs.declared.Walker.{Walker}
 use Rattle.walk.specs.declared.Ran.{Ran}
 
@@ -36,11 +37,12 @@ haltOf e s = eqb (s .place) e || eqb (s .found) (length (s .list))
 abbrev pub searchOf : List ℕ → ℕ → ℕ → ℕ → State → State
 searchOf t n e = runOf 3 (walkOf n (product t n)) (haltOf e)
 
--- the numbers of a walker with its counts are within their ends
-pub record Sane (e : ℕ) (r : Ran) (l : List ℕ) : Type 0 where
+-- the numbers of a walker with its counts are within their ends, and it keeps the point of its value
+pub record Sane (n e : ℕ) (r : Ran) (l : List ℕ) : Type 0 where
   pub place : r .walker .place ≤ e
   pub found : r .found ≤ length l
   pub additions : r .additions ≤ 2 * r .walker .place
+  pub point : r .walker .point ≡ keptPoint n (r .walker .place)
 
 -- the parts of a walker with its counts
 abbrev pub partOf : Ran → Part

@@ -4,6 +4,10 @@ use crate::Walker;
 use blocks::Part;
 use blocks::block27;
 use blocks::tops;
+use moves::before;
+use moves::near;
+use moves::span_at;
+use moves::span_of;
 use trits::Vector;
 ghost use mathlib.Core.Path.{_≡_};
 ghost use mathlib.Core.Bool.{true};
@@ -11,7 +15,7 @@ ghost use mathlib.Core.List.{List};
 ghost use Prim.Native.Nat.{ℕ, _+_, _-_, _*_, _%_, _^_, _<_, _≤_};
 ghost use lib.ListN.{length, getD, set, drop};
 ghost use Rattle.trits.specs.declared.Vector.{Vector};
-ghost use Rattle.moves.specs.Moves.{Sized};
+ghost use Rattle.moves.specs.Moves.{Sized, Offsets};
 ghost use Rattle.blocks.specs.Parts.{whole};
 ghost use Rattle.walk.specs.Run.{stateOf, partOf, searchOf, Sane};
 
@@ -63,9 +67,10 @@ fn opened(r: Ran) -> Part
     }
 }
 
-// The walker again, from the parts and the slots from 3 on.
-fn closed(x: Part, rest: [Vector; 20]) -> Ran
-    ensures { λ r. ⌜ ((l : List ℕ) → stateOf r l ≡ whole x (drop 3 rest) l) ⌝ }
+// The walker again, from the parts, the slots from 3 on and its point.
+fn closed(x: Part, rest: [Vector; 20], point: u64) -> Ran
+    ensures state { λ r. ⌜ ((l : List ℕ) → stateOf r l ≡ whole x (drop 3 rest) l) ⌝ }
+    ensures point { λ r. ⌜ r .walker .point ≡ point ⌝ }
 {
     let s0 = x.s0;
     let s1 = x.s1;
@@ -79,6 +84,7 @@ fn closed(x: Part, rest: [Vector; 20]) -> Ran
         place: x.place,
         value,
         slots,
+        point,
     };
     Ran {
         walker,
@@ -88,11 +94,20 @@ fn closed(x: Part, rest: [Vector; 20]) -> Ran
 }
 
 // As many blocks of 27 as there is room for; none where the place is not above 0 or 27 does not divide it.
-pub(crate) fn leaps(table: &[u64], n: usize, end: u64, r: Ran, budget: u64, list: &mut [u64]) -> Ran
+pub(crate) fn leaps(
+    table: &[u64],
+    n: usize,
+    end: u64,
+    r: Ran,
+    budget: u64,
+    low: &[u64; 81],
+    list: &mut [u64],
+) -> Ran
     requires { ⌜ Sized (now table) n end ⌝ }
-    requires { ⌜ Sane end r (now list) ⌝ }
+    requires { ⌜ Sane n end r (now list) ⌝ }
+    requires { ⌜ Offsets (now low) ⌝ }
     ensures state { λ s. ⌜ searchOf (now (table .entry)) n end (budget - (s .walker .place - r .walker .place)) (stateOf s (now (list .exit))) ≡ searchOf (now (table .entry)) n end budget (stateOf r (now (list .entry))) ⌝ }
-    ensures sane { λ s. ⌜ Sane end s (now (list .exit)) ⌝ }
+    ensures sane { λ s. ⌜ Sane n end s (now (list .exit)) ⌝ }
     ensures less { λ s. ⌜ (r .walker .place ≤ s .walker .place) × (s .walker .place ≤ r .walker .place + budget) ⌝ }
 {
     let w = r.walker;
@@ -103,17 +118,20 @@ pub(crate) fn leaps(table: &[u64], n: usize, end: u64, r: Ran, budget: u64, list
     let len = list.len();
     let mut slots = w.slots;
     let mut x = opened(r);
+    let mut s = span_of(n, before(w.place), w.point);
     let mut left = budget;
     while room(left, end, x.place, len, x.found) {
         let f = positions::split(x.place / 27);
         let b = f.position + 3;
         let slot = slots[b];
-        let t = block27(table, n, x, b, f.rest, slot, top, list);
+        s = span_at(n, s, x.place, b, f.rest);
+        let t = block27(table, n, x, b, f.rest, slot, top, s, low, list);
         let up = t.slot;
         let y = t.part;
         slots[b] = up;
         x = y;
         left -= 27;
     }
-    closed(x, slots)
+    let point = near(s, low, before(x.place));
+    closed(x, slots, point)
 }

@@ -16,7 +16,6 @@ use Rattle.blocks.proofs.block27.Reads as reads
 use Rattle.blocks.proofs.block27.Lts as lts
 use Rattle.tables.proofs.entry.Reads as entry-reads
 use Rattle.moves.proofs.head.Reads as head-reads
-use Rattle.moves.proofs.points.Reads as points-reads
 use Rattle.blocks.proofs.parts.big.Reads as big-reads
 
 -- src/lib.rt:70:9
@@ -68,18 +67,6 @@ big-requires c κs =
     let e = end-small (a .n) (z .small) in
     (s .pre .1 .1 .1 .0, omega (arith, q), omega (arith, c .before .before .before .before .before .before .head .ensures .1, s .pre .1 .1 .1))
 
--- src/lib.rt:82:5
-points-requires : tie.Need-points-requires
-points-requires c κs =
-    let r = c .before .before .before .big in
-    let s = c .before .before .before .before .before .before .before .before .before .before .before .before .before .before in
-    let a = s .args in
-    let z = s .pre .0 in
-    let q = s .pre .1 .1 .0 in
-    let h : lowestOf 3 (a .x .place) < a .n = of-lt 3 two (a .n) (a .x .place) (q .0) (omega (arith, q)) in
-    let t : 3 ≤ lowestOf 3 (a .x .place) = low27 (a .x .place) (q .0) (q .1) in
-    (omega arith, z .small, omega (arith, r .ensures .1 .found, r .kept, s .pre .1 .1 .1 .0))
-
 -- src/lib.rt:52:1
 same-length : tie.Need-same-length
 same-length c = search needs
@@ -113,6 +100,5 @@ block27-spec =
     entry-requires-2
     entry-requires-3
     big-requires
-    points-requires
     same-length
     returns)

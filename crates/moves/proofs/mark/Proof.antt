@@ -8,7 +8,7 @@ use Rattle.moves.proofs.mark.Statement.{statement}
 use Rattle.moves.proofs.mark.Tie as tie
 use Rattle.moves.proofs.mark.Reads as reads
 use Rattle.moves.proofs.mark.Lts as lts
-use Rattle.gray.proofs.point_at.Reads as point-at-reads
+use Rattle.moves.proofs.near.Reads as near-reads
 use Rattle.trits.proofs.is_zero.Reads as is-zero-reads
 
 -- src/lib.rt:48:8
@@ -16,8 +16,8 @@ is-zero-requires : tie.Need-is-zero-requires
 is-zero-requires c κs = search needs
 
 -- src/lib.rt:49:13
-point-at-requires : tie.Need-point-at-requires
-point-at-requires c κs = search needs
+near-requires : tie.Need-near-requires
+near-requires c κs = search needs
 
 -- src/lib.rt:50:9
 mul-list : tie.Need-mul-list
@@ -41,7 +41,7 @@ returns c =
     let s = c .before .before .before .before in
     let e : isZero (s .args .value) ≡ true = sym (c .before .before .is-zero .ensures .word) ∙ c .before .if1 .taken in (
       rw e,
-      (rw (e, c .point-at .ensures), (omega arith, omega arith)),
+      (rw (e, c .near .ensures), (omega arith, omega arith)),
     )
 
 -- src/lib.rt:42:1
@@ -57,7 +57,7 @@ mark-spec =
     tie.close
     (tie.spec
     is-zero-requires
-    point-at-requires
+    near-requires
     mul-list
     slice-write-list
     add-result

@@ -6,6 +6,7 @@ use native.Mathlib.Omega.{arith}
 use lib.ListN.{length}
 use Rattle.trits.specs.declared.Vector.{Vector}
 use Rattle.moves.specs.Step.{bump}
+use Rattle.moves.specs.Moves.{nearOf}
 use Rattle.blocks.specs.Parts.{whole, Went, legsOf}
 use Rattle.blocks.proofs.PartLaw.{legs-more, legs-none}
 use Rattle.blocks.proofs.parts.big.Statement.{statement}
@@ -16,12 +17,12 @@ use Rattle.blocks.proofs.parts.raise_slot.Reads as raise-slot-reads
 use Rattle.blocks.proofs.parts.nine.Reads as nine-reads
 
 abbrev Inv-loop : tie.InvT-loop
-Inv-loop top list₀ t02 t12 t22 y₀ a0₀ a1₀ a2₀ left₀ list y a0 a1 a2 left =
+Inv-loop top s low list₀ t02 t12 t22 y₀ a0₀ a1₀ a2₀ left₀ list y a0 a1 a2 left =
     (left ≤ 2) × (length list ≡ length list₀) × Went y₀ y (9 * (2 - left)) (18 * (2 - left))
-    × ((rest : List Vector) → legsOf left a0 a1 a2 top (whole y rest list) ≡ legsOf 2 a0₀ a1₀ a2₀ top (whole y₀ rest list₀))
+    × ((rest : List Vector) → legsOf (nearOf s) left a0 a1 a2 top (whole y rest list) ≡ legsOf (nearOf s) 2 a0₀ a1₀ a2₀ top (whole y₀ rest list₀))
 
 abbrev μ-loop : tie.MeasureT-loop
-μ-loop top list₀ t02 t12 t22 y₀ a0₀ a1₀ a2₀ left₀ list y a0 a1 a2 left = left
+μ-loop top s low list₀ t02 t12 t22 y₀ a0₀ a1₀ a2₀ left₀ list y a0 a1 a2 left = left
 
 -- src/parts.rt:225:5
 loop-holds : tie.Need-loop-holds Inv-loop μ-loop
@@ -45,8 +46,8 @@ returns c =
     let w = l .inv .2 in
     let e = g .ensures .1 in (
       (λ rest.
-          g .ensures .0 rest ∙ sym (legs-none (l .a0) (l .a1) (l .a2) (a .top) (whole (l .y) rest (l .list)))
-          ∙ ap (λ (k : ℕ). legsOf k (l .a0) (l .a1) (l .a2) (a .top) (whole (l .y) rest (l .list))) (sym (c .if1 .taken)) ∙ l .inv .3 rest),
+          g .ensures .0 rest ∙ sym (legs-none (nearOf (a .s)) (l .a0) (l .a1) (l .a2) (a .top) (whole (l .y) rest (l .list)))
+          ∙ ap (λ (k : ℕ). legsOf (nearOf (a .s)) k (l .a0) (l .a1) (l .a2) (a .top) (whole (l .y) rest (l .list))) (sym (c .if1 .taken)) ∙ l .inv .3 rest),
       record { place = omega (arith, c .if1); found = omega (arith, c .if1); additions = omega (arith, c .if1) },
     )
 
@@ -84,8 +85,8 @@ loop-again c =
       omega (arith, g .kept, l .inv .1),
       record { place = omega arith; found = omega arith; additions = omega arith },
       (λ rest.
-          ap (legsOf (l .left - 1) (a .top .t02) (a .top .t12) (a .top .t22) (a .top)) (m .0 rest _ ∙ ap (bump 2 (l .a2)) (g .ensures .0 rest))
-          ∙ sym (legs-more (l .left) (l .a0) (l .a1) (l .a2) (a .top) (whole (l .y) rest (l .list)) h) ∙ l .inv .3 rest),
+          ap (legsOf (nearOf (a .s)) (l .left - 1) (a .top .t02) (a .top .t12) (a .top .t22) (a .top)) (m .0 rest _ ∙ ap (bump 2 (l .a2)) (g .ensures .0 rest))
+          ∙ sym (legs-more (nearOf (a .s)) (l .left) (l .a0) (l .a1) (l .a2) (a .top) (whole (l .y) rest (l .list)) h) ∙ l .inv .3 rest),
     )
 
 pub big-spec : {M : Type 1} → statement M

@@ -6,6 +6,7 @@ use native.Mathlib.Omega.{arith}
 use lib.ListN.{length}
 use Rattle.trits.specs.declared.Vector.{Vector}
 use Rattle.moves.specs.Step.{bump}
+use Rattle.moves.specs.Moves.{nearOf}
 use Rattle.blocks.specs.Parts.{whole, Went, rowsOf, nineOf}
 use Rattle.blocks.proofs.PartLaw.{rows-more, rows-none}
 use Rattle.blocks.proofs.parts.nine.Statement.{statement}
@@ -16,12 +17,12 @@ use Rattle.blocks.proofs.parts.raise_slot.Reads as raise-slot-reads
 use Rattle.blocks.proofs.parts.three.Reads as three-reads
 
 abbrev Inv-loop : tie.InvT-loop
-Inv-loop list₀ t00 t01 t11 y₀ a0₀ a1₀ left₀ list y a0 a1 left =
+Inv-loop s low list₀ t00 t01 t11 y₀ a0₀ a1₀ left₀ list y a0 a1 left =
     (left ≤ 2) × (length list ≡ length list₀) × Went y₀ y (3 * (2 - left)) (6 * (2 - left))
-    × ((rest : List Vector) → rowsOf left a0 a1 t00 t01 t11 (whole y rest list) ≡ rowsOf 2 a0₀ a1₀ t00 t01 t11 (whole y₀ rest list₀))
+    × ((rest : List Vector) → rowsOf (nearOf s) left a0 a1 t00 t01 t11 (whole y rest list) ≡ rowsOf (nearOf s) 2 a0₀ a1₀ t00 t01 t11 (whole y₀ rest list₀))
 
 abbrev μ-loop : tie.MeasureT-loop
-μ-loop list₀ t00 t01 t11 y₀ a0₀ a1₀ left₀ list y a0 a1 left = left
+μ-loop s low list₀ t00 t01 t11 y₀ a0₀ a1₀ left₀ list y a0 a1 left = left
 
 loop-holds : tie.Need-loop-holds Inv-loop μ-loop
 loop-holds c = (omega arith, refl, record { place = omega arith; found = omega arith; additions = omega arith }, (λ rest. refl))
@@ -43,8 +44,8 @@ returns c =
     let w = l .inv .2 in
     let e = g .ensures .1 in (
       (λ rest.
-          g .ensures .0 rest ∙ sym (rows-none (t .t00) (t .t01) (t .t11) (l .a0) (l .a1) (whole (l .y) rest (l .list)))
-          ∙ ap (λ (k : ℕ). rowsOf k (l .a0) (l .a1) (t .t00) (t .t01) (t .t11) (whole (l .y) rest (l .list))) (sym (c .if1 .taken)) ∙ l .inv .3 rest),
+          g .ensures .0 rest ∙ sym (rows-none (nearOf (a .s)) (t .t00) (t .t01) (t .t11) (l .a0) (l .a1) (whole (l .y) rest (l .list)))
+          ∙ ap (λ (k : ℕ). rowsOf (nearOf (a .s)) k (l .a0) (l .a1) (t .t00) (t .t01) (t .t11) (whole (l .y) rest (l .list))) (sym (c .if1 .taken)) ∙ l .inv .3 rest),
       record { place = omega (arith, c .if1); found = omega (arith, c .if1); additions = omega (arith, c .if1) },
     )
 
@@ -78,8 +79,8 @@ loop-again c =
       omega (arith, g .kept, l .inv .1),
       record { place = omega arith; found = omega arith; additions = omega arith },
       (λ rest.
-          ap (rowsOf (l .left - 1) (t .t01) (t .t11) (t .t00) (t .t01) (t .t11)) (m .0 rest _ ∙ ap (bump 1 (l .a1)) (g .ensures .0 rest))
-          ∙ sym (rows-more (t .t00) (t .t01) (t .t11) (l .left) (l .a0) (l .a1) (whole (l .y) rest (l .list)) h) ∙ l .inv .3 rest),
+          ap (rowsOf (nearOf (a .s)) (l .left - 1) (t .t01) (t .t11) (t .t00) (t .t01) (t .t11)) (m .0 rest _ ∙ ap (bump 1 (l .a1)) (g .ensures .0 rest))
+          ∙ sym (rows-more (nearOf (a .s)) (t .t00) (t .t01) (t .t11) (l .left) (l .a0) (l .a1) (whole (l .y) rest (l .list)) h) ∙ l .inv .3 rest),
     )
 
 pub nine-spec : {M : Type 1} → statement M

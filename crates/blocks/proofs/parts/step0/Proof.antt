@@ -1,7 +1,8 @@
 -- `blocks::parts::step0` meets its contract: its move, then its note.
 use mathlib.Core.Path.{ap, _∙_}
 use native.Mathlib.Omega.{arith}
-use Rattle.blocks.specs.Parts.{jotOf}
+use Rattle.moves.specs.Step.{noteBy}
+use Rattle.moves.specs.Moves.{nearOf}
 use borrow.Author.Needs.{needs}
 use Rattle.blocks.proofs.parts.step0.Statement.{statement}
 use Rattle.blocks.proofs.parts.step0.Tie as tie
@@ -28,7 +29,7 @@ returns c =
     let n = c .before .before .note .ensures in
     let m = c .before .before .before .before .raise-slot .ensures in
     let a = c .before .before .before .before .before .before .args in (
-      (λ rest. n .0 rest ∙ ap jotOf (m .0 rest (a .list .now))),
+      (λ rest. n .0 rest ∙ ap (noteBy (nearOf (a .s))) (m .0 rest (a .list .now))),
       record { place = omega (arith, n .1, m .1); found = omega (arith, n .1, m .1); additions = omega (arith, n .1, m .1) },
     )
 

@@ -1,8 +1,9 @@
 -- `blocks::parts::three` meets its contract: three notes with two moves between.
 use mathlib.Core.Path.{ap, _∙_}
 use native.Mathlib.Omega.{arith}
-use Rattle.moves.specs.Step.{State, bump}
-use Rattle.blocks.specs.Parts.{jotOf, threeOf}
+use Rattle.moves.specs.Step.{State, bump, noteBy}
+use Rattle.moves.specs.Moves.{nearOf}
+use Rattle.blocks.specs.Parts.{threeOf}
 use borrow.Author.Needs.{needs}
 use Rattle.blocks.proofs.parts.three.Statement.{statement}
 use Rattle.blocks.proofs.parts.three.Tie as tie
@@ -36,8 +37,8 @@ returns c =
     let n = c .before .before .before .before .before .before .before .before .before .before .note .ensures in
     let a = c .before .before .before .before .before .before .before .before .before .before .before .before .before .args in (
       (λ rest.
-          p .0 rest ∙ ap (λ (s : State). jotOf (bump 0 (a .t00) s))
-          (q .0 rest ∙ ap (λ (s : State). jotOf (bump 0 (a .th) s)) (n .0 rest))),
+          p .0 rest ∙ ap (λ (s : State). noteBy (nearOf (a .s)) (bump 0 (a .t00) s))
+          (q .0 rest ∙ ap (λ (s : State). noteBy (nearOf (a .s)) (bump 0 (a .th) s)) (n .0 rest))),
       record { place = omega (arith, p .1, q .1, n .1); found = omega (arith, p .1, q .1, n .1); additions = omega (arith, p .1, q .1, n .1) },
     )
 
