@@ -3,11 +3,11 @@
 use mathlib.Core.Path.{_≡_, refl, sym, ap, ap₂, _∙_}
 use mathlib.Core.Logic.{by-cases, ⊎-elim}
 use Prim.Native.Nat.{ℕ, zero, suc, _+_, _-_, _*_, _/_, _%_, _^_, _≤_, _<_}
-use native.Mathlib.Nat.{pow-zero, pow-suc, div-one, mod-self, mod-eq-of-lt, mul-add-div, mul-add-mod-self-left, div-div-eq-div-mul, mul-comm}
+use native.Mathlib.Nat.{pow-zero, pow-suc, div-one, div-eq-of-lt, mod-self, mod-eq-of-lt, mul-zero, mul-add-div, mul-add-mod-self-left, div-div-eq-div-mul, mul-comm}
 use native.Mathlib.Decide.{decLt}
 use native.Mathlib.Omega.{arith}
 use Rattle.residues.specs.Sums.{same}
-use Rattle.residues.proofs.ModLaw.{Cong, crefl, cof, csym, _⨾_, cdrop, cadd, cancel, csmall}
+use Rattle.residues.proofs.ModLaw.{Cong, crefl, cof, csym, _⨾_, cadd, cancel, csmall}
 use Rattle.residues.proofs.SumLaw.{same-self, same-other}
 use Rattle.positions.specs.Positions.{lowestOf}
 use Rattle.positions.proofs.LowestLaw.{of-zero, of-other}
@@ -95,35 +95,42 @@ module _ (q : ℕ) (two : 1 < q) where
       point-next-is q two n (suc p) ∙ ap₂ (λ (x y : ℕ). x + q * pointOf q n y) (stays p z) u in
       let c = point-next-is q two n p in
       record {
-        wraps = λ y. rw pow-suc (fall _ _ _ _ _ (q ^ b) a c (s .wraps y));
+        wraps = λ y. rw pow-suc (fall _ _ _ _ _ (q ^ b) (q - 1) a c (s .wraps y));
         grows = λ y. rw pow-suc (rise _ _ _ _ _ (q ^ b) a c (s .grows y));
       }
     where
       turn : (v : ℕ) → v * q * r ≡ q * (v * r) + 0
       turn v = omega arith
 
-      fall : (x y d s t v : ℕ) → x ≡ d + q * s → y ≡ d + q * t → s + (q - 1) * v ≡ t → x + (q - 1) * (v * q) ≡ y
-      fall x y d s t v e f g = e' ∙ sym f
-        where
-          e' : x + (q - 1) * (v * q) ≡ d + q * t
-          e' = rw (e, ← g) (omega arith)
+      spread : (d s v k : ℕ) → d + q * s + k * (v * q) ≡ d + q * (s + k * v)
+      spread d s v k = omega arith
+
+      part : (d t v : ℕ) → d + q * (t + v) ≡ d + q * t + v * q
+      part d t v = omega arith
+
+      fall : (x y d s t v k : ℕ) → x ≡ d + q * s → y ≡ d + q * t → s + k * v ≡ t → x + k * (v * q) ≡ y
+      fall x y d s t v k e f g = ap (λ (z : ℕ). z + k * (v * q)) e ∙ spread d s v k ∙ ap (λ (z : ℕ). d + q * z) g ∙ sym f
 
       rise : (x y d s t v : ℕ) → x ≡ d + q * s → y ≡ d + q * t → s ≡ t + v → x ≡ y + v * q
-      rise x y d s t v e f g = rw (e, f, g) (omega arith)
+      rise x y d s t v e f g = e ∙ ap (λ (z : ℕ). d + q * z) g ∙ part d t v ∙ ap (λ (z : ℕ). z + v * q) (sym f)
 
   -- ---- a point cut in two
-  -- a point of n digits has only zeros above them
-  pub none : (n : ℕ) → pointOf q n 0 ≡ 0
+  empty : (p : ℕ) → pointOf q 0 p ≡ 0
   unfolding pointOf number
-  none zero = refl
-  none (suc n) =
-      let d : pointDigit q 0 0 ≡ 0 = csmall (point-digit-lt q two 0 0) pos (cancel pos (0 / q) (point-low q two 0 ⨾ cof (sym zeroth))) in
-      point-next-is q two n 0 ∙ ap₂ (λ (x y : ℕ). x + q * pointOf q n y) d zeroth ∙ ap (λ (x : ℕ). 0 + q * x) (none n) ∙ omega arith
-    where
-      zeroth : 0 / q ≡ 0
-      zeroth = native.Mathlib.Nat.div-eq-of-lt pos
+  empty p = refl
 
-  pub wide : (j n p : ℕ) → p < q ^ n → pointOf q (j + n) p ≡ pointOf q n p
+  -- the point of place 0
+  zeroth : 0 / q ≡ 0
+  zeroth = div-eq-of-lt pos
+
+  none : (n : ℕ) → pointOf q n 0 ≡ 0
+  none zero = empty 0
+  none (suc n) =
+      let d : pointDigit q 0 0 ≡ 0 = csmall (point-digit-lt q two 0 0) pos (cancel pos (0 / q) (point-low q two 0 ⨾ cof (sym (ap (λ (x : ℕ). 0 + x) zeroth)))) in
+      point-next-is q two n 0 ∙ ap₂ (λ (x y : ℕ). x + q * pointOf q n y) d zeroth ∙ ap (λ (x : ℕ). 0 + q * x) (none n) ∙ mul-zero q
+
+  -- a point of n digits has only zeros above them
+  wide : (j n p : ℕ) → p < q ^ n → pointOf q (j + n) p ≡ pointOf q n p
   wide j zero p l = let z : p ≡ 0 = omega (arith, pow-zero q) in ap (pointOf q (j + 0)) z ∙ none (j + 0) ∙ sym (none 0) ∙ ap (pointOf q 0) (sym z)
   wide j (suc n) p l =
       ap (λ (x : ℕ). pointOf q x p) (back j n) ∙ point-next-is q two (j + n) p
@@ -133,11 +140,17 @@ module _ (q : ℕ) (two : 1 < q) where
       back j n = omega arith
 
   cut : (l n p : ℕ) → pointOf q (l + n) p ≡ pointOf q l p + q ^ l * pointOf q n (p / q ^ l)
-  unfolding pointOf number
-  cut zero n p = ap₂ (pointOf q) (lead n) (sym (div-one p) ∙ ap (λ (x : ℕ). p / x) (sym (pow-zero q))) ∙ rw (pow-zero q) (omega arith)
+  cut zero n p =
+      ap (λ (x : ℕ). pointOf q x p) (lead n)
+      ∙ one (pointOf q n p)
+      ∙ ap₂ (λ (x y : ℕ). x + 1 * pointOf q n y) (sym (empty p)) (sym (div-one p))
+      ∙ ap (λ (x : ℕ). pointOf q 0 p + x * pointOf q n (p / x)) (sym (pow-zero q))
     where
       lead : (x : ℕ) → 0 + x ≡ x
       lead x = omega arith
+
+      one : (x : ℕ) → x ≡ 0 + 1 * x
+      one x = omega arith
   cut (suc l) n p =
       let e : p / q / q ^ l ≡ p / q ^ suc l = div-div-eq-div-mul p q (q ^ l) ∙ ap (λ (x : ℕ). p / x) (mul-comm q (q ^ l) ∙ sym (pow-suc q l)) in
       ap (λ (x : ℕ). pointOf q x p) (back l n) ∙ point-next-is q two (l + n) p
@@ -157,8 +170,7 @@ module _ (q : ℕ) (two : 1 < q) where
 
   -- the l lowest digits of a point depend on the lowest l + 1 of the place alone
   pub low-same : (l o x : ℕ) → pointOf q l (q ^ suc l * o + x) ≡ pointOf q l x
-  unfolding pointOf number
-  low-same zero o x = refl
+  low-same zero o x = empty _ ∙ sym (empty x)
   low-same (suc l) o x =
       let i : q ^ suc (suc l) * o + x ≡ q * (q ^ suc l * o) + x = ap (λ (w : ℕ). w * o + x) (pow-suc q (suc l)) ∙ turn (q ^ suc l) in
       let j : q ^ suc l * o + x / q ≡ q * (q ^ l * o) + x / q = ap (λ (w : ℕ). w * o + x / q) (pow-suc q l) ∙ turn' (q ^ l) (x / q) in
