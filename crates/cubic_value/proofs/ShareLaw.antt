@@ -16,9 +16,9 @@ use Rattle.held.proofs.CountLaw.{gathered-cong, gathered-const}
 use Rattle.held.proofs.VisitLaw.{roomy}
 use Rattle.held.proofs.ThirdsLaw.{turns-point, roomy-ups, roomy-next, roomy-far, visits-pair-fall, gathered-fall}
 use Rattle.held.proofs.NinthsLaw.{visits-one, gathered-one-far, gathered-one-same, gathered-two-far, gathered-two-near, gathered-two-same, roomy-apart, roomy-after, after-far, after-next, after-same, twice-next, twice-far}
-use Rattle.cubic_slots.specs.declared.Weights.{Weights}
-use Rattle.cubic_slots.specs.Parts.{Weighs}
-use Rattle.cubic_slots.proofs.WeightLaw.{less-third, turns-part, apart, none-falls, none-thrice}
+use Rattle.weights.specs.declared.Weights.{Weights}
+use Rattle.weights.specs.Parts.{Weighs}
+use Rattle.weights.proofs.WeightLaw.{less-third, turns-part, apart, none-falls, none-thrice}
 
 -- ---- what the code works out
 pub lows-is : (k : ℕ) → Cong 3 (2 * (k / 3 % 3) + (k % 3 + 1) / 2 * (2 * (k / 3 % 3)) + k % 3 / 2) (lowsSum k)

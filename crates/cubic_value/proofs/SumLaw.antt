@@ -26,7 +26,7 @@ use Rattle.cubics.proofs.CubicLaw.{ext-cubic, flat-cubic}
 use Rattle.cubics.proofs.OneSystemLaw.{table-const, table-lin, table-quad, table-two, table-all}
 use Rattle.cubic_tables.specs.Words.{CubicTable, cubicAt}
 use Rattle.cubic_tables.proofs.HoldsLaw.{const-holds, lin-holds}
-use Rattle.cubic_slots.proofs.RowLaw.{sum-parts}
+use Rattle.weights.proofs.RowLaw.{sum-parts}
 use Rattle.cubic_value.specs.Parts.{pairTo, laterTo, partTo, valueTo}
 use Rattle.cubic_value.proofs.ShareLaw.{none-pair, none-triple, none-first, none-cube, once-is, later-pair, later-triple}
 

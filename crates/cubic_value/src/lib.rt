@@ -1,10 +1,5 @@
 // The value of a cubic system at the point of any place, from its table of differences: each entry as often as it has come to the value so far, modulo 3.
 // No walking, no coefficients. The contract of value_after cites cubics/specs; specs/Parts says what the steps sum.
-use cubic_slots::Weights;
-use cubic_slots::low_sum;
-use cubic_slots::skip;
-use cubic_slots::weigh;
-use cubic_slots::weighed;
 use cubic_tables::key;
 use cubic_tables::pair;
 use gray::Place;
@@ -15,6 +10,11 @@ use tables::vector;
 use trits::Vector;
 use trits::add;
 use trits::times;
+use weights::Weights;
+use weights::low_sum;
+use weights::skip;
+use weights::weigh;
+use weights::weighed;
 ghost use mathlib.Core.Path.{_≡_};
 ghost use mathlib.Core.List.{[], _∷_};
 ghost use Prim.Native.Nat.{ℕ, suc, _+_, _-_, _*_, _/_, _%_, _^_, _<_, _≤_};
@@ -30,7 +30,7 @@ ghost use Rattle.cubics.specs.Cubic.{cubicOf};
 ghost use Rattle.cubics.specs.Whole.{backCubic};
 ghost use Rattle.cubic_tables.specs.Order.{cubicCount};
 ghost use Rattle.cubic_tables.specs.Words.{CubicTable, cubicAt};
-ghost use Rattle.cubic_slots.specs.Parts.{Ready};
+ghost use Rattle.weights.specs.Parts.{Ready};
 ghost use Rattle.cubic_value.specs.Parts.{pairTo, laterTo, partTo};
 
 // The weights of b, b; y is the place over 3 to the b.

@@ -3,9 +3,9 @@
 // and specs/Answers.
 use graphs::TEXT_MOST;
 use graphs::numbered;
-use graphs::read_lines;
 use refusals::Refusal;
 use refusals::Verdict;
+use scans::read_lines;
 use tallies::count_lines;
 use texts::put;
 use tidying::put_tidy;

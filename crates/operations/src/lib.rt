@@ -52,7 +52,7 @@ pub fn coefficients(
 {
     match degree {
         Degree::Two => differences::coefficients(n, m, table, coefficients),
-        Degree::Three => cubic_differences::coefficients(n, m, table, coefficients),
+        Degree::Three => cubic_coefficients::coefficients(n, m, table, coefficients),
     }
 }
 

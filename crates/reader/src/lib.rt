@@ -3,9 +3,9 @@
 use crate::equations::write;
 use graphs::TEXT_MOST;
 use graphs::numbered;
-use graphs::read_lines;
 use refusals::Refusal;
 use refusals::Verdict;
+use scans::read_lines;
 ghost use mathlib.Core.Path.{_≡_};
 ghost use Prim.Native.Nat.{_+_, _*_, _≤_};
 ghost use lib.ListN.{length};

@@ -5,15 +5,15 @@ use Prim.Native.Nat.{ℕ, suc, _+_, _-_, _*_, _/_, _%_, _^_, _<_, _≤_}
 use native.Mathlib.Nat.{mod-lt, mul-le-mul-right}
 use native.Mathlib.Omega.{arith}
 use Rattle.residues.proofs.ModLaw.{Cong, crefl, cadd, cmul}
-use Rattle.cubic_slots.proofs.WeightLaw.{small}
+use Rattle.weights.proofs.WeightLaw.{small}
 use Rattle.cubic_value.proofs.ShareLaw.{sames-is, nexts-is}
 use borrow.Author.Needs.{needs}
 use Rattle.cubic_value.proofs.beside.Statement.{statement}
 use Rattle.cubic_value.proofs.beside.Tie as tie
 use Rattle.cubic_value.proofs.beside.Reads as reads
 use Rattle.cubic_value.proofs.beside.Lts as lts
-use Rattle.cubic_slots.proofs.low_sum.Reads as low-sum-reads
-use Rattle.cubic_slots.proofs.weigh.Reads as weigh-reads
+use Rattle.weights.proofs.low_sum.Reads as low-sum-reads
+use Rattle.weights.proofs.weigh.Reads as weigh-reads
 
 weigh-requires : tie.Need-weigh-requires
 weigh-requires c κs = search needs

@@ -13,8 +13,8 @@ use Rattle.cubic_value.proofs.own.Statement.{statement}
 use Rattle.cubic_value.proofs.own.Tie as tie
 use Rattle.cubic_value.proofs.own.Reads as reads
 use Rattle.cubic_value.proofs.own.Lts as lts
-use Rattle.cubic_slots.proofs.low_sum.Reads as low-sum-reads
-use Rattle.cubic_slots.proofs.weigh.Reads as weigh-reads
+use Rattle.weights.proofs.low_sum.Reads as low-sum-reads
+use Rattle.weights.proofs.weigh.Reads as weigh-reads
 
 weigh-requires : tie.Need-weigh-requires
 weigh-requires c κs = search needs
