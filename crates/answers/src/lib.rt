@@ -57,7 +57,7 @@ pub fn finish(end: u64, a: Answer, r: Record, record: &mut [u8], answer: &mut [u
 {
     match a {
         Answer::Ran(report) => {
-            wire::write_record(r, record);
+            wire_out::write_record(r, record);
             write_answer(end, report, answer);
             0
         }

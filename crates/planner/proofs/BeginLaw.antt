@@ -21,7 +21,7 @@ use Rattle.graphs.specs.Reading.{Outcome, graph, refused, outcomeOf}
 use Rattle.graphs.specs.Drawn.{Drawn}
 use Rattle.graphs.proofs.SoundLaw.{text-drawn}
 use Rattle.reader.specs.declared.ReadAnswer.the-variants as answer
-use Rattle.reader.specs.Equations.{systemOf}
+use Rattle.equations.specs.Equations.{systemOf}
 use Rattle.reader.specs.Answers.{answerOf, wordsAfter}
 use Rattle.reader.proofs.AnswerLaw.{graph-is, refused-is}
 use Rattle.walks.specs.Calls.{zerosIn, costIn}

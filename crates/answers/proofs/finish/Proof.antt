@@ -10,7 +10,7 @@ use Rattle.answers.proofs.finish.Reads as reads
 use Rattle.answers.proofs.finish.Lts as lts
 use Rattle.refusals.proofs.number.Reads as number-reads
 use Rattle.answers.proofs.write_answer.Reads as write-answer-reads
-use Rattle.wire.proofs.write_record.Reads as write-record-reads
+use Rattle.wire_out.proofs.write_record.Reads as write-record-reads
 
 enum-known-a : tie.Need-enum-known-a
 enum-known-a c = search needs
