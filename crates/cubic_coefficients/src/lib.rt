@@ -1,6 +1,6 @@
 // The coefficients of a cubic table of differences: the products of three first, what they added to the rest taken off, then the rest as in degree 2.
 // Contracts cite cubic_tables/specs/Words and Answers.
-use cubic_tables::check_copy;
+use cubic_checks::check_copy;
 use cubic_turns::shift;
 use cubic_turns::turn_triples;
 use refusals::MOST_WORDS;

@@ -1,6 +1,6 @@
 // The table of differences of a cubic coefficient table: the part of degree 2 as in degree 2, what the products of three add to it, then the products
 // of three themselves. Contracts cite cubic_tables/specs/Words and Answers. The way back is the crate cubic_coefficients.
-use cubic_tables::check_copy;
+use cubic_checks::check_copy;
 use cubic_turns::shift;
 use cubic_turns::turn_triples;
 use refusals::MOST_WORDS;

@@ -1,6 +1,6 @@
 // The value of a cubic system at a point, from its coefficient table: products with an unknown that is 0 are passed over.
 // Contracts cite cubic_tables/specs/Words; specs/Parts says what the steps sum.
-use cubic_tables::check;
+use cubic_checks::check;
 use cubic_tables::key;
 use evaluation::digits;
 use gray::Point;

@@ -1,9 +1,9 @@
 // The two parts of a cubic table on the way to its differences and on the way back: the products of three one after the other, and what they add to
 // the entries of degree up to 2, or take off. Contracts cite specs/Parts, for the code alone.
-use brackets::coefficient;
-use brackets::difference;
-use brackets::extra_pair;
-use brackets::extra_single;
+use cubic_cells::coefficient;
+use cubic_cells::difference;
+use cubic_extras::extra_pair;
+use cubic_extras::extra_single;
 use cubic_tables::triple;
 use tables::index;
 use tables::put_entry;

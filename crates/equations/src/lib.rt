@@ -1,9 +1,9 @@
 // The coefficient words of a graph: one equation for each edge. Contracts cite specs/Equations; specs/Parts says what the steps do.
 use graphs::Graph;
 use lines::wide;
+use single_trits::with_trit;
 use tables::index;
 use trits::Vector;
-use trits::with_trit;
 ghost use mathlib.Core.Path.{_≡_};
 ghost use Prim.Native.Nat.{_+_, _*_, _<_, _≤_, min, max};
 ghost use lib.ListN.{length, replicate};

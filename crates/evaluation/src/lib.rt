@@ -1,11 +1,11 @@
 // The value of a system at a point, from its coefficient table.
+use checks::check;
 use gray::Point;
 use positions::power;
 use refusals::MOST_UNKNOWNS;
 use refusals::Refusal;
 use refusals::Verdict;
 use tables::Evaluated;
-use tables::check;
 use tables::index;
 use tables::vector;
 use trits::Vector;

@@ -19,7 +19,7 @@ use Rattle.cubic_evaluation.proofs.evaluate.Tie as tie
 use Rattle.cubic_evaluation.proofs.evaluate.Reads as reads
 use Rattle.cubic_evaluation.proofs.evaluate.Lts as lts
 use Rattle.positions.proofs.power.Reads as power-reads
-use Rattle.cubic_tables.proofs.check.Reads as check-reads
+use Rattle.cubic_checks.proofs.check.Reads as check-reads
 use Rattle.evaluation.proofs.digits.Reads as digits-reads
 use Rattle.cubic_evaluation.proofs.value_at.Reads as value-at-reads
 

@@ -14,7 +14,7 @@ use Rattle.weights.specs.Parts.{Ready}
 use Rattle.cubic_value.specs.Parts.{laterTo}
 use Rattle.seconds.proofs.CountedLaw.{pair-low, part-next}
 use Rattle.weights.proofs.RowLaw.{ready-skip, ready-late}
-use Rattle.cubic_value.proofs.ShareLaw.{weighs-later}
+use Rattle.shares.proofs.ShareLaw.{weighs-later}
 use Rattle.cubic_value.proofs.SumLaw.{later-first, later-more}
 use borrow.Author.Needs.{needs}
 use Rattle.cubic_value.proofs.later.Statement.{statement}

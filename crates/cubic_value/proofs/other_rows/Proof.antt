@@ -13,7 +13,7 @@ use Rattle.weights.specs.Parts.{Ready, Weighs}
 use Rattle.cubic_value.specs.Parts.{pairTo}
 use Rattle.seconds.proofs.CountedLaw.{pair-low, part-next}
 use Rattle.weights.proofs.RowLaw.{ready-skip, ready-late}
-use Rattle.cubic_value.proofs.ShareLaw.{weighs-beside}
+use Rattle.shares.proofs.ShareLaw.{weighs-beside}
 use Rattle.cubic_value.proofs.SumLaw.{pair-is, others-whole}
 use borrow.Author.Needs.{needs}
 use Rattle.cubic_value.proofs.other_rows.Statement.{statement}
@@ -25,7 +25,7 @@ use Rattle.weights.proofs.weigh.Reads as weigh-reads
 use Rattle.weights.proofs.weighed.Reads as weighed-reads
 use Rattle.cubic_tables.proofs.key.Reads as key-reads
 use Rattle.cubic_tables.proofs.pair.Reads as pair-reads
-use Rattle.cubic_value.proofs.beside.Reads as beside-reads
+use Rattle.shares.proofs.beside.Reads as beside-reads
 use Rattle.cubic_value.proofs.later.Reads as later-reads
 use Rattle.trits.proofs.add.Reads as add-reads
 use Rattle.trits.proofs.times.Reads as times-reads
