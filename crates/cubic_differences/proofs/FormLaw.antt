@@ -18,7 +18,7 @@ use Rattle.tables.specs.Words.{entry, Written, Table, polyAt, differencesOf}
 use Rattle.tables.proofs.IndexLaw.{index-lt, count-is}
 use Rattle.tables.proofs.AgreeLaw as low
 use Rattle.tables.proofs.EntryLaw.{lin-holds, quad-holds}
-use Rattle.differences.proofs.TurnLaw.{differences-first}
+use Rattle.turns.proofs.TurnLaw.{differences-first}
 use Rattle.tables.proofs.VectorLaw.{of-self}
 use Rattle.tables.proofs.WriteLaw.{entries-ext}
 use Rattle.held.specs.Held as held
