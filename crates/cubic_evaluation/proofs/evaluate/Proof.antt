@@ -12,7 +12,7 @@ use Rattle.cubic_tables.specs.Words.{cubicValues}
 use Rattle.cubic_tables.specs.Answers.{cubicEvaluateVerdict}
 use Rattle.tables.proofs.AnswerLaw.{entries-checked}
 use Rattle.evaluation.proofs.AnswerLaw.{value-refused, value-outside, value-inside, tells-of}
-use Rattle.cubic_evaluation.proofs.ValueLaw.{values-are}
+use Rattle.cubic_planes.proofs.ValueLaw.{values-are}
 use borrow.Author.Needs.{needs}
 use Rattle.cubic_evaluation.proofs.evaluate.Statement.{statement}
 use Rattle.cubic_evaluation.proofs.evaluate.Tie as tie

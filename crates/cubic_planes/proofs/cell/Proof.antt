@@ -1,4 +1,4 @@
--- `cubic_evaluation::cell` meets its contract: the seed is the pair's coefficient, the row those of its products.
+-- `cubic_planes::cell` meets its contract: the seed is the pair's coefficient, the row those of its products.
 use mathlib.Core.Path.{_≡_, ap}
 use Prim.Native.Nat.{ℕ, _+_, _-_}
 use native.Mathlib.Omega.{arith}
@@ -7,12 +7,12 @@ use Rattle.tables.proofs.IndexLaw.{row-ge, count-le}
 use Rattle.cubic_tables.specs.Words.{cubicAt}
 use Rattle.cubic_tables.proofs.OrderLaw.{pair-is, cubic-count-low}
 use Rattle.cubic_tables.proofs.HoldsLaw.{quad-holds}
-use Rattle.cubic_evaluation.proofs.ValueLaw.{pair-number, none-begun, pair-order, later-same, later-apart, cell-room, cell-entry, cell-square, next-le, cell-sum}
+use Rattle.cubic_planes.proofs.ValueLaw.{pair-number, none-begun, pair-order, later-same, later-apart, cell-room, cell-entry, cell-square, next-le, cell-sum}
 use borrow.Author.Needs.{needs}
-use Rattle.cubic_evaluation.proofs.cell.Statement.{statement}
-use Rattle.cubic_evaluation.proofs.cell.Tie as tie
-use Rattle.cubic_evaluation.proofs.cell.Reads as reads
-use Rattle.cubic_evaluation.proofs.cell.Lts as lts
+use Rattle.cubic_planes.proofs.cell.Statement.{statement}
+use Rattle.cubic_planes.proofs.cell.Tie as tie
+use Rattle.cubic_planes.proofs.cell.Reads as reads
+use Rattle.cubic_planes.proofs.cell.Lts as lts
 use Rattle.cubic_tables.proofs.key.Reads as key-reads
 use Rattle.listed.proofs.row.Reads as row-reads
 use Rattle.tables.proofs.index.Reads as index-reads

@@ -30,7 +30,7 @@ use Rattle.cubic_tables.specs.Words.{CubicTable, cubicAt, cubicValues}
 use Rattle.cubic_tables.proofs.OrderLaw.{pair-is, index-base, triple-lt}
 use Rattle.cubic_tables.proofs.WordsLaw.{cube-none}
 use Rattle.cubic_tables.proofs.HoldsLaw.{cube-holds}
-use Rattle.cubic_evaluation.specs.Parts.{cellSum, planeSum}
+use Rattle.cubic_planes.specs.Parts.{cellSum, planeSum}
 
 -- ---- where the products of the pair i, j stand: b is the number that the code works out, from p, the number of j, j among the pairs
 pub base-at : (n i j k b p : ℕ) → i ≤ j → j ≤ k → i < k → k < n → p ≡ rowStart n j → b ≡ keyOf n i + (p - j) → b + k ≡ tripleIndex n i j k

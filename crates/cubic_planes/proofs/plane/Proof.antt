@@ -1,4 +1,4 @@
--- `cubic_evaluation::plane` meets its contract. The invariant: the cells of the listed unknowns before number t are summed.
+-- `cubic_planes::plane` meets its contract. The invariant: the cells of the listed unknowns before number t are summed.
 use borrow.Author.Needs.{needs}
 use mathlib.Core.Path.{_≡_, ap, _∙_}
 use Prim.Native.Nat.{ℕ, _+_, _-_, _*_, _≤_}
@@ -11,14 +11,14 @@ use Rattle.listed.specs.Lists.{Lists}
 use Rattle.listed.proofs.ListLaw.{listed-rise, row-begun, row-more}
 use Rattle.cubic_tables.specs.Words.{CubicTable, cubicAt}
 use Rattle.cubic_tables.proofs.OrderLaw.{cubic-count-low}
-use Rattle.cubic_evaluation.specs.Parts.{cellSum}
+use Rattle.cubic_planes.specs.Parts.{cellSum}
 use Rattle.cubic_tables.proofs.HoldsLaw.{lin-holds}
-use Rattle.cubic_evaluation.proofs.ValueLaw.{none-begun, plane-sum}
-use Rattle.cubic_evaluation.proofs.plane.Statement.{statement}
-use Rattle.cubic_evaluation.proofs.plane.Tie as tie
-use Rattle.cubic_evaluation.proofs.plane.Reads as reads
-use Rattle.cubic_evaluation.proofs.plane.Lts as lts
-use Rattle.cubic_evaluation.proofs.cell.Reads as cell-reads
+use Rattle.cubic_planes.proofs.ValueLaw.{none-begun, plane-sum}
+use Rattle.cubic_planes.proofs.plane.Statement.{statement}
+use Rattle.cubic_planes.proofs.plane.Tie as tie
+use Rattle.cubic_planes.proofs.plane.Reads as reads
+use Rattle.cubic_planes.proofs.plane.Lts as lts
+use Rattle.cubic_planes.proofs.cell.Reads as cell-reads
 use Rattle.listed.proofs.turned.Reads as turned-reads
 use Rattle.tables.proofs.vector.Reads as vector-reads
 use Rattle.trits.proofs.add.Reads as add-reads
