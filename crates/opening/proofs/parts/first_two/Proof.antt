@@ -1,14 +1,14 @@
--- `opening::parts::record_two` meets its contract: the room is the front of 462 words.
+-- `opening::parts::first_two` meets its contract: the room is the front of 462 words.
 use native.Mathlib.Omega.{arith}
 use lib.ListN.{length-take}
 use Rattle.given.specs.Given.{quadratic}
 use Rattle.given.proofs.TableLaw.{within, table-of}
 use Rattle.tables.proofs.IndexLaw.{count-le}
 use borrow.Author.Needs.{needs}
-use Rattle.opening.proofs.parts.record_two.Statement.{statement}
-use Rattle.opening.proofs.parts.record_two.Tie as tie
-use Rattle.opening.proofs.parts.record_two.Reads as reads
-use Rattle.opening.proofs.parts.record_two.Lts as lts
+use Rattle.opening.proofs.parts.first_two.Statement.{statement}
+use Rattle.opening.proofs.parts.first_two.Tie as tie
+use Rattle.opening.proofs.parts.first_two.Reads as reads
+use Rattle.opening.proofs.parts.first_two.Lts as lts
 use Rattle.opening.proofs.parts.fill.Reads as fill-reads
 
 -- src/parts.rt:149:30
@@ -27,5 +27,5 @@ fill-requires c κs = let s = c .before .before in (s .pre .0, s .pre .1, simp l
 returns : tie.Need-returns
 returns c = search needs
 
-pub record-two-spec : {M : Type 1} → statement M
-record-two-spec = tie.close (tie.spec array-borrow-prefix-c slice-aggregate-fill fill-requires returns)
+pub first-two-spec : {M : Type 1} → statement M
+first-two-spec = tie.close (tie.spec array-borrow-prefix-c slice-aggregate-fill fill-requires returns)
