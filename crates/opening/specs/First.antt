@@ -1,11 +1,18 @@
 -- A record in two parts: all but the second slots, and the words that are lent for these.
-use mathlib.Core.List.{List}
+use mathlib.Core.Bool.{Bool, true, _&&_}
+use mathlib.Core.List.{List, [], _∷_}
 use Prim.Native.Nat.{ℕ}
+use lib.Dec.{eqb}
 use lib.ListN.{replicate}
 use Rattle.given.specs.declared.Degree.{Degree}
 use Rattle.given.specs.declared.Degree.the-variants.{Two, Three}
 use Rattle.opening.specs.declared.First.{First}
 use Rattle.opening.specs.declared.Record.{Record}
+
+-- whether numbers are all zero
+unfoldable pub allZero : List ℕ → Bool
+allZero [] = true
+allZero (x ∷ xs) = eqb x 0 && allZero xs
 
 -- how many words are lent for second slots: in degree 2 none, for there they are all zero
 abbrev pub lentWords : Degree → ℕ

@@ -4,3 +4,4 @@ pub mod TrailLaw
 pub mod RanLaw
 pub mod TwoLaw
 pub mod ThreeLaw
+pub mod FirstLaw

@@ -19,12 +19,14 @@ use Rattle.cubic_walk.specs.Run.{stateOf, fresh, searchOf}
 use Rattle.cubic_walk.specs.Meaning.{Stands, Answers}
 use Rattle.cubic_walk.proofs.MeanLaw.{stands-value, stands-slot, stands-second, opened-stands, differences-tabled}
 use Rattle.cubic_walk.proofs.CallLaw.{call-is}
+use Rattle.given.specs.declared.Degree.the-variants.{Three}
 use Rattle.given.specs.Given.{Given, cubic, cubicBehind, valuesOf, Checked}
 use Rattle.given.specs.Slots.{valueAt, slotsAt, secondsAt}
 use Rattle.given.proofs.TableLaw.{within, cubic-table-of}
 use Rattle.given.proofs.SlotLaw.{slot-used, slot-none, slots-length, slots-at, slots-are, second-used, second-none, seconds-long, seconds-at, seconds-are}
 use Rattle.opening.specs.declared.Record.{Record}
 use Rattle.opening.specs.Opened.{openedAt}
+use Rattle.opening.specs.First.{wholeOf}
 use Rattle.search.specs.declared.walked.Went.{Went}
 use Rattle.search.specs.Search.{trailBehind, fits}
 use Rattle.search.specs.Parts.{Leaves}
@@ -97,12 +99,12 @@ module _ (n m : ℕ) (t : List ℕ) where
     abbrev left : Went
     left =
         record {
-          «record» = record { n = n; m = m; place = record { 0 = x .walker .place }; value = x .walker .value; slots = x .walker .slots; seconds = x .walker .seconds };
+          first = record { n = n; m = m; place = record { 0 = x .walker .place }; value = x .walker .value; slots = x .walker .slots };
           additions = x .additions;
           found = x .found;
         }
 
-    pub three-leaves : Leaves g p b l k left
-    three-leaves =
-        leaves g p b l k left (call .0 .place) (call .0 .additions) (call .0 .found) (call .0 .list)
-        (opened-at (x .walker .place) (stateOf x k) long (call .1))
+    pub three-leaves : (s : List ℕ) → s ≡ x .walker .seconds → Leaves g p b l k s left
+    three-leaves s e =
+        leaves g p b l k s left (call .0 .place) (call .0 .additions) (call .0 .found) (call .0 .list)
+        (ap (wholeOf Three (left .first)) e ∙ opened-at (x .walker .place) (stateOf x k) long (call .1))

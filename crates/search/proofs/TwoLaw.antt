@@ -7,7 +7,7 @@ use Prim.Native.Nat.{ℕ, _-_, _%_, _^_, _≤_, _<_}
 use native.Mathlib.Nat.{mod-eq-of-lt}
 use native.Mathlib.Decide.{decLt}
 use native.Mathlib.Omega.{arith}
-use lib.ListN.{length, getD, List·getD-eq-default}
+use lib.ListN.{length, getD, replicate, List·getD-eq-default}
 use Rattle.trits.specs.declared.Vector.{Vector}
 use Rattle.trits.specs.Trit.{none}
 use Rattle.trits.proofs.LegalLaw.{trit-lt}
@@ -25,7 +25,7 @@ use Rattle.walk.specs.Meaning.{Stands, Tabled, Answers}
 use Rattle.walk.proofs.MeanLaw.{stands-value, stands-slot, opened-stands, differences-tabled}
 use Rattle.walk.proofs.CallLaw.{call-is}
 use Rattle.given.specs.Given.{Given, quadratic, behind, valuesOf, Checked}
-use Rattle.given.specs.Slots.{valueAt, slotsAt, secondsAt}
+use Rattle.given.specs.Slots.{valueAt, slotsAt}
 use Rattle.given.proofs.TableLaw.{within, table-of}
 use Rattle.given.proofs.SlotLaw.{slot-used, slot-none, slots-length, slots-at, slots-are, seconds-two}
 use Rattle.opening.specs.declared.Record.{Record}
@@ -52,11 +52,6 @@ module _ (n m : ℕ) (t : List ℕ) where
       let e = fits-opened g r h in
       ap₂ (λ (u : Vector) (s : List Vector). record { place = r .place .0; value = u; slots = s }) (ap (λ (x : Record). x .value) e) (ap (λ (x : Record). x .slots) e)
 
-  -- second slots are the same at every place
-  seconds-is : (r : Record) → fits g r ≡ true → (q : ℕ) → r .seconds ≡ secondsAt g q 0 20
-  unfolding openedAt
-  seconds-is r h q = ap (λ (x : Record). x .seconds) (fits-opened g r h) ∙ sym (seconds-two n m t (r .place .0 - 1)) ∙ seconds-two n m t q
-
   -- the opened record stands at its place
   stands-open : n ≤ 20 → (p : ℕ) (l : List ℕ) → Stands S n m p (fresh (walkerAt p) l)
   unfolding valueAt valuesOf
@@ -76,16 +71,17 @@ module _ (n m : ℕ) (t : List ℕ) where
       sym (mod-eq-of-lt small) ∙ ap (λ (x : ℕ). x % 3) (sym (table-back 3 two 2 half-three (polyAt n t e) b c small)))
 
   -- a state that stands at p is the record opened at p
-  opened-at : (p : ℕ) (s : State) (w : List ℕ) → length (s .slots) ≡ 20 → w ≡ secondsAt g (p - 1) 0 20 → Stands S n m p s
-      → record { n = n; m = m; place = record { 0 = p }; value = s .value; slots = s .slots; seconds = w } ≡ openedAt g p
+  opened-at : (p : ℕ) (s : State) → length (s .slots) ≡ 20 → Stands S n m p s
+      → record { n = n; m = m; place = record { 0 = p }; value = s .value; slots = s .slots; seconds = replicate 420 0 } ≡ openedAt g p
   unfolding openedAt valueAt valuesOf
-  opened-at p s w long e h =
+  opened-at p s long h =
       let e1 = stands-value S n m p s h in
       let e2 = slots-are g (p - 1) (s .slots) long
       (λ i k. by-cases (decLt i n)
       (λ b. stands-slot S n m p s h i b ∙ sym (slot-used g (p - 1) i b))
       (λ b. h .rest i (omega arith) ∙ sym (slot-none g (p - 1) i (omega arith)))) in
-      λ i. record { n = n; m = m; place = record { 0 = p }; value = e1 i; slots = e2 i; seconds = e i }
+      let e3 = seconds-two n m t (p - 1) in
+      λ i. record { n = n; m = m; place = record { 0 = p }; value = e1 i; slots = e2 i; seconds = e3 i }
 
   -- ---- from what the walk's code says
   module _ (ok : Checked g) (r : Record) (own : fits g r ≡ true) (b e : ℕ) (l k : List ℕ) (x : Ran) (end : e ≡ 3 ^ n) (long : length (x .walker .slots) ≡ 20)
@@ -104,12 +100,12 @@ module _ (n m : ℕ) (t : List ℕ) where
     abbrev left : Went
     left =
         record {
-          «record» = record { n = n; m = m; place = record { 0 = x .walker .place }; value = x .walker .value; slots = x .walker .slots; seconds = r .seconds };
+          first = record { n = n; m = m; place = record { 0 = x .walker .place }; value = x .walker .value; slots = x .walker .slots };
           additions = x .additions;
           found = x .found;
         }
 
-    pub two-leaves : Leaves g p b l k left
-    two-leaves =
-        leaves g p b l k left (call .0 .place) (call .0 .additions) (call .0 .found) (call .0 .list)
-        (opened-at (x .walker .place) (stateOf x k) (r .seconds) long (seconds-is r own (x .walker .place - 1)) (call .1))
+    pub two-leaves : (s : List ℕ) → Leaves g p b l k s left
+    two-leaves s =
+        leaves g p b l k s left (call .0 .place) (call .0 .additions) (call .0 .found) (call .0 .list)
+        (opened-at (x .walker .place) (stateOf x k) long (call .1))

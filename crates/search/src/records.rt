@@ -1,11 +1,15 @@
-// Two records are compared whole, field by field.
-use opening::Record;
+// Two records are compared whole, field by field, the second slots by themselves.
+use opening::First;
 use refusals::MOST_UNKNOWNS;
 use refusals::SECOND_WORDS;
 use trits::Vector;
 ghost use mathlib.Core.Path.{_≡_};
 ghost use lib.Dec.{eqb};
-ghost use Rattle.search.specs.Search.{sameVector, sameList, sameRecord};
+ghost use lib.ListN.{length};
+ghost use Rattle.refusals.specs.Limits.{secondWords};
+ghost use Rattle.opening.specs.First.{allZero};
+ghost use Rattle.search.specs.Search.{sameVector, sameList};
+ghost use Rattle.search.specs.Parts.{sameFirst};
 
 fn same_vector(a: Vector, b: Vector) -> bool
     ensures { λ r. ⌜ r ≡ sameVector a b ⌝ }
@@ -31,22 +35,33 @@ fn same_slots(a: [Vector; MOST_UNKNOWNS], b: [Vector; MOST_UNKNOWNS]) -> bool
     true
 }
 
-fn same_seconds(a: [u64; SECOND_WORDS], b: [u64; SECOND_WORDS]) -> bool
-    ensures { λ r. ⌜ r ≡ sameList eqb a b ⌝ }
+// Whether the second slots of two records are equal. No word ends it early, so that the compiler compares several at once.
+pub(crate) fn same_seconds(a: &[u64], b: &[u64]) -> bool
+    requires { ⌜ (length (now a) ≡ secondWords) × (length (now b) ≡ secondWords) ⌝ }
+    ensures { λ r. ⌜ r ≡ sameList eqb (now (a .entry)) (now (b .entry)) ⌝ }
 {
+    let mut differ: u64 = 0;
     let mut i: usize = 0;
     while i < SECOND_WORDS {
-        if a[i] != b[i] {
-            return false;
-        }
+        let x = a[i];
+        let y = b[i];
+        differ = differ | (x ^ y);
         i += 1;
     }
-    true
+    differ == 0
 }
 
-// Whether two records are equal.
-pub(crate) fn same_record(a: Record, b: Record) -> bool
-    ensures { λ r. ⌜ r ≡ sameRecord a b ⌝ }
+// Whether all second slots are zero.
+pub(crate) fn no_seconds(s: [u64; SECOND_WORDS]) -> bool
+    ensures { λ r. ⌜ r ≡ allZero s ⌝ }
+{
+    let zero = [0u64; SECOND_WORDS];
+    same_seconds(&s, &zero)
+}
+
+// Whether two records are equal but for their second slots.
+pub(crate) fn same_first(a: First, b: First) -> bool
+    ensures { λ r. ⌜ r ≡ sameFirst a b ⌝ }
 {
     if a.n != b.n {
         return false;
@@ -64,10 +79,5 @@ pub(crate) fn same_record(a: Record, b: Record) -> bool
     }
     let s = a.slots;
     let t = b.slots;
-    if !same_slots(s, t) {
-        return false;
-    }
-    let x = a.seconds;
-    let y = b.seconds;
-    same_seconds(x, y)
+    same_slots(s, t)
 }

@@ -1,39 +1,56 @@
 // The walk of a call that nothing refuses, by the degree of its table.
 use given::Degree;
 use gray::Place;
-use opening::Record;
+use opening::First;
+use refusals::SECOND_WORDS;
 ghost use mathlib.Core.Path.{_≡_};
 ghost use mathlib.Core.Bool.{true};
-ghost use Prim.Native.Nat.{_^_};
+ghost use mathlib.Core.List.{List, []};
+ghost use Prim.Native.Nat.{ℕ, _^_};
+ghost use lib.ListN.{length};
+ghost use Rattle.refusals.specs.Limits.{secondWords};
+ghost use Rattle.given.specs.declared.Degree.the-variants as degree;
 ghost use Rattle.given.specs.Given.{tableWith, quadratic, cubic, Checked};
+ghost use Rattle.opening.specs.First.{lentWords, wholeOf};
 ghost use Rattle.search.specs.Search.{fits};
 ghost use Rattle.search.specs.Parts.{Leaves};
 
-// What a walk left: the record moved on, the additions made and the zeros found.
+// What a walk left: the first part of the record moved on, the additions made and the zeros found.
 pub(crate) struct Went {
-    pub(crate) record: Record,
+    pub(crate) first: First,
     pub(crate) additions: u64,
     pub(crate) found: usize,
 }
 
-// The walk of a table of degree 2.
+// All of `into` becomes the words of second slots.
+fn copy(from: &[u64], into: &mut [u64])
+    requires { ⌜ (length (now from) ≡ secondWords) × (length (now into) ≡ secondWords) ⌝ }
+    ensures { λ _. ⌜ now (into .exit) ≡ now (from .entry) ⌝ }
+{
+    let mut i: usize = 0;
+    while i < SECOND_WORDS {
+        into[i] = from[i];
+        i += 1;
+    }
+}
+
+// The walk of a table of degree 2, whose records have no second slots, whatever is lent for them.
 fn walked_two(
     n: u64,
     m: u64,
     table: &[u64],
     end: u64,
-    r: Record,
+    f: First,
     budget: u64,
     list: &mut [u64],
 ) -> Went
-    requires { ⌜ Checked (quadratic n m (now table)) × (fits (quadratic n m (now table)) r ≡ true) × (end ≡ 3 ^ n) ⌝ }
-    ensures { λ w. ⌜ Leaves (quadratic n m (now (table .entry))) (r .place .0) budget (now (list .entry)) (now (list .exit)) w ⌝ }
+    requires { ⌜ Checked (quadratic n m (now table)) × (fits (quadratic n m (now table)) (wholeOf degree.Two f []) ≡ true) × (end ≡ 3 ^ n) ⌝ }
+    ensures { λ w. ⌜ ((s : List ℕ) → Leaves (quadratic n m (now (table .entry))) (f .place .0) budget (now (list .entry)) (now (list .exit)) s w) ⌝ }
 {
-    let value = r.value;
-    let slots = r.slots;
-    let seconds = r.seconds;
+    let value = f.value;
+    let slots = f.slots;
     let w = walk::Walker {
-        place: r.place.0,
+        place: f.place.0,
         value,
         slots,
     };
@@ -42,13 +59,12 @@ fn walked_two(
     let value = last.value;
     let slots = last.slots;
     Went {
-        record: Record {
+        first: First {
             n,
             m,
             place: Place(last.place),
             value,
             slots,
-            seconds,
         },
         additions: t.additions,
         found: t.found,
@@ -61,35 +77,37 @@ fn walked_three(
     m: u64,
     table: &[u64],
     end: u64,
-    s: Record,
+    s: First,
+    seconds: &mut [u64],
     budget: u64,
     list: &mut [u64],
 ) -> Went
-    requires { ⌜ Checked (cubic n m (now table)) × (fits (cubic n m (now table)) s ≡ true) × (end ≡ 3 ^ n) ⌝ }
-    ensures { λ w. ⌜ Leaves (cubic n m (now (table .entry))) (s .place .0) budget (now (list .entry)) (now (list .exit)) w ⌝ }
+    requires { ⌜ Checked (cubic n m (now table)) × (fits (cubic n m (now table)) (wholeOf degree.Three s (now seconds)) ≡ true) × (end ≡ 3 ^ n) × (length (now seconds) ≡ secondWords) ⌝ }
+    ensures { λ w. ⌜ Leaves (cubic n m (now (table .entry))) (s .place .0) budget (now (list .entry)) (now (list .exit)) (now (seconds .exit)) w ⌝ }
 {
     let value = s.value;
     let slots = s.slots;
-    let seconds = s.seconds;
+    let mut own = [0u64; SECOND_WORDS];
+    copy(seconds, &mut own);
     let w = cubic_walk::Walker {
         place: s.place.0,
         value,
         slots,
-        seconds,
+        seconds: own,
     };
     let t = cubic_walk::run(table, n as usize, end, w, budget, list);
     let left = t.walker;
     let value = left.value;
     let slots = left.slots;
-    let seconds = left.seconds;
+    let moved = left.seconds;
+    copy(&moved, seconds);
     Went {
-        record: Record {
+        first: First {
             n,
             m,
             place: Place(left.place),
             value,
             slots,
-            seconds,
         },
         additions: t.additions,
         found: t.found,
@@ -103,15 +121,16 @@ pub(crate) fn walked(
     m: u64,
     table: &[u64],
     end: u64,
-    r: Record,
+    f: First,
+    seconds: &mut [u64],
     budget: u64,
     list: &mut [u64],
 ) -> Went
-    requires { ⌜ Checked (tableWith degree n m (now table)) × (fits (tableWith degree n m (now table)) r ≡ true) × (end ≡ 3 ^ n) ⌝ }
-    ensures { λ w. ⌜ Leaves (tableWith degree n m (now (table .entry))) (r .place .0) budget (now (list .entry)) (now (list .exit)) w ⌝ }
+    requires { ⌜ Checked (tableWith degree n m (now table)) × (fits (tableWith degree n m (now table)) (wholeOf degree f (now seconds)) ≡ true) × (end ≡ 3 ^ n) × (length (now seconds) ≡ lentWords degree) ⌝ }
+    ensures { λ w. ⌜ Leaves (tableWith degree n m (now (table .entry))) (f .place .0) budget (now (list .entry)) (now (list .exit)) (now (seconds .exit)) w ⌝ }
 {
     match degree {
-        Degree::Two => walked_two(n, m, table, end, r, budget, list),
-        Degree::Three => walked_three(n, m, table, end, r, budget, list),
+        Degree::Two => walked_two(n, m, table, end, f, budget, list),
+        Degree::Three => walked_three(n, m, table, end, f, seconds, budget, list),
     }
 }

@@ -2,7 +2,7 @@
 use mathlib.Core.Path.{_≡_, ap}
 use Prim.Native.Nat.{_-_}
 use Rattle.walks.specs.declared.Stop.{Stop}
-use Rattle.search.specs.declared.Outcome.{Outcome}
+use Rattle.search.specs.declared.Moved.{Moved}
 use Rattle.search.specs.declared.Answer.the-variants as answer
 use borrow.Author.Needs.{needs}
 use Rattle.search.proofs.calls.reported.Statement.{statement}
@@ -25,8 +25,8 @@ returns c =
     let a = c .before .before .args in
     let x = a .t in
     ap (λ (s : Stop). record {
-      answer = answer.Ran (record { stop = s; points = x .«record» .place .0 - a .from; additions = x .additions; found = x .found });
-      «record» = x .«record»;
+      answer = answer.Ran (record { stop = s; points = x .first .place .0 - a .from; additions = x .additions; found = x .found });
+      first = x .first;
     }) (c .stop-of .ensures)
 
 pub reported-spec : {M : Type 1} → statement M

@@ -1,8 +1,11 @@
 -- `search::walked::walked_two` meets its contract: the walk from the opened record.
 use mathlib.Core.Path.{_≡_}
+use mathlib.Core.List.{[]}
 use native.Mathlib.Omega.{arith}
 use lib.ListN.{length, length-map}
+use Rattle.given.specs.declared.Degree.the-variants.{Two}
 use Rattle.given.specs.Given.{quadratic}
+use Rattle.opening.specs.First.{wholeOf}
 use Rattle.given.proofs.TableLaw.{within, table-of}
 use Rattle.search.proofs.RanLaw.{fits-place}
 use Rattle.search.proofs.TwoLaw.{two-leaves}
@@ -16,12 +19,12 @@ use Rattle.walk.proofs.run.Reads as run-reads
 -- src/walked.rt:40:9
 run-requires : tie.Need-run-requires
 run-requires c κs =
-    let s = c .before .before .before .before .before .before in
-    let n = s .args .n in
-    let m = s .args .m in
-    let t = s .args .table .now in
-    let w = within (quadratic n m t) (s .pre .0) in
-    (record { some = w .least; small = w .most; table = table-of n m t (s .pre .0) .size; end = omega (arith, s .pre .2) }, omega (arith, s .pre .2, fits-place (quadratic n m t) (s .args .r) (s .pre .1)))
+    let a = c .before .before .before .before .before .args in
+    let n = a .n in
+    let m = a .m in
+    let t = a .table .now in
+    let w = within (quadratic n m t) (c .before .before .before .before .before .pre .0) in
+    (record { some = w .least; small = w .most; table = table-of n m t (c .before .before .before .before .before .pre .0) .size; end = omega (arith, c .before .before .before .before .before .pre .2) }, omega (arith, c .before .before .before .before .before .pre .2, fits-place (quadratic n m t) (wholeOf Two (a .f) []) (c .before .before .before .before .before .pre .1)))
 
 -- src/walked.rt:20:1
 same-length : tie.Need-same-length
@@ -30,9 +33,9 @@ same-length c = search needs
 -- src/walked.rt:20:1
 returns : tie.Need-returns
 returns c =
-    let s = c .before .before .before .before .before .before .before .before .before .before .before .before in
+    let a = c .before .before .before .before .before .before .before .before .before .before .before .args in
     let x = c .before .before .before .before .before .run in
-    two-leaves (s .args .n) (s .args .m) (s .args .table .now) (s .pre .0) (s .args .r) (s .pre .1) (s .args .budget) (s .args .end) (s .args .list .now) _ (x .result) (s .pre .2)
+    two-leaves (a .n) (a .m) (a .table .now) (c .before .before .before .before .before .before .before .before .before .before .before .pre .0) (wholeOf Two (a .f) []) (c .before .before .before .before .before .before .before .before .before .before .before .pre .1) (a .budget) (a .end) (a .list .now) _ (x .result) (c .before .before .before .before .before .before .before .before .before .before .before .pre .2)
     (simp length-map at (x .ok .1 .1 .0 .1 .1 .1 .1 .0 .1 .0 .1)) (x .ensures .0)
 
 pub walked-two-spec : {M : Type 1} → statement M

@@ -1,13 +1,14 @@
--- `search::calls::judged` meets its contract: by the verdict on the table.
+-- `search::judging::judged` meets its contract: by the verdict on the table.
 use mathlib.Core.Path.{sym, _∙_}
 use Rattle.search.proofs.VerdictLaw.{by-table}
 use borrow.Author.Needs.{needs}
 use Rattle.given.specs.Given.{tableWith}
-use Rattle.search.proofs.calls.judged.Statement.{statement}
-use Rattle.search.proofs.calls.judged.Tie as tie
-use Rattle.search.proofs.calls.judged.Reads as reads
-use Rattle.search.proofs.calls.judged.Lts as lts
-use Rattle.search.proofs.calls.judged_checked.Reads as judged-checked-reads
+use Rattle.opening.specs.First.{wholeOf}
+use Rattle.search.proofs.judging.judged.Statement.{statement}
+use Rattle.search.proofs.judging.judged.Tie as tie
+use Rattle.search.proofs.judging.judged.Reads as reads
+use Rattle.search.proofs.judging.judged.Lts as lts
+use Rattle.search.proofs.judging.judged_checked.Reads as judged-checked-reads
 use Rattle.given.proofs.check.Reads as check-reads
 
 -- src/calls.rt:128:9
@@ -24,13 +25,13 @@ enum-told c = search needs
 
 -- src/calls.rt:131:26
 judged-checked-requires : tie.Need-judged-checked-requires
-judged-checked-requires c κs = sym (c .before .before .check .ensures .0) ∙ c .enum-told .given .1
+judged-checked-requires c κs = (sym (c .before .before .check .ensures .0) ∙ c .enum-told .given .1, c .before .before .before .before .before .pre)
 
 -- src/calls.rt:125:1
 returns : tie.Need-returns
 returns c =
-    let s = c .before .before .before .before .before in
-    by-table (tableWith (s .args .degree) (s .args .n) (s .args .m) (s .args .table .now)) (s .args .r) (s .args .budget) (s .args .room) _ (sym (c .before .before .before .check .ensures .0) ∙ c .before .verdict .given .1)
+    let a = c .before .before .before .before .before .before .args in
+    by-table (tableWith (a .degree) (a .n) (a .m) (a .table .now)) (wholeOf (a .degree) (a .f) (a .seconds .now)) (a .budget) (a .room) _ (sym (c .before .before .before .check .ensures .0) ∙ c .before .verdict .given .1)
 
 -- src/calls.rt:125:1
 returns-2 : tie.Need-returns-2
