@@ -1,4 +1,4 @@
--- `wire::record_of` meets its contract: after i turns the first i slots are read.
+-- `wire::first_of` meets its contract: after i turns the first i slots are read.
 use mathlib.Core.Path.{_≡_, refl, ap, _∙_}
 use mathlib.Core.List.{List, _++_}
 use Prim.Native.Nat.{_≤_, _-_, _+_, _*_}
@@ -8,16 +8,16 @@ use lib.ListN.{length, take, drop, getD, length-set}
 use Rattle.trits.specs.declared.Vector.{Vector}
 use Rattle.wire.specs.Wire.{vectorsOf}
 use Rattle.wire.proofs.WireLaw.{read-turn, read-end}
-use Rattle.wire.proofs.record_of.Statement.{statement}
-use Rattle.wire.proofs.record_of.Tie as tie
-use Rattle.wire.proofs.record_of.Reads as reads
-use Rattle.wire.proofs.record_of.Lts as lts
+use Rattle.wire.proofs.first_of.Statement.{statement}
+use Rattle.wire.proofs.first_of.Tie as tie
+use Rattle.wire.proofs.first_of.Reads as reads
+use Rattle.wire.proofs.first_of.Lts as lts
 
 abbrev Inv-loop : tie.InvT-loop
-Inv-loop w seconds slots₀ i₀ slots i = (i ≤ 20) × (length slots ≡ 20) × (take i slots ++ vectorsOf (drop (5 + 2 * i) w) ≡ vectorsOf (drop 5 w))
+Inv-loop w slots₀ i₀ slots i = (i ≤ 20) × (length slots ≡ 20) × (take i slots ++ vectorsOf (drop (5 + 2 * i) w) ≡ vectorsOf (drop 5 w))
 
 abbrev μ-loop : tie.MeasureT-loop
-μ-loop w seconds slots₀ i₀ slots i = 20 - i
+μ-loop w slots₀ i₀ slots i = 20 - i
 
 loop-holds : tie.Need-loop-holds Inv-loop μ-loop
 loop-holds c = (omega arith, refl, refl)
@@ -88,10 +88,10 @@ returns c =
     let l = c .before .before .before .before .before .before .loop in
     let s = c .before .before .before .before .before .before .before in
     let w = s .args .w .now in
-    ap (λ (u : List Vector). record { n = getD w 0 0; m = getD w 1 0; place = record { 0 = getD w 2 0 }; value = record { high = getD w 3 0; low = getD w 4 0 }; slots = u; seconds = s .args .seconds }) (read-end w (l .slots) (l .i) (s .pre) (l .inv .1) (omega arith) (l .inv .2))
+    ap (λ (u : List Vector). record { n = getD w 0 0; m = getD w 1 0; place = record { 0 = getD w 2 0 }; value = record { high = getD w 3 0; low = getD w 4 0 }; slots = u }) (read-end w (l .slots) (l .i) (s .pre) (l .inv .1) (omega arith) (l .inv .2))
 
-pub record-of-spec : {M : Type 1} → statement M
-record-of-spec =
+pub first-of-spec : {M : Type 1} → statement M
+first-of-spec =
     tie.close
     (tie.spec
     Inv-loop

@@ -7,7 +7,7 @@ use borrow.Author.Needs.{needs}
 use lib.ListN.{length, take, getD, set, length-set}
 use lib.Seq.{take-all}
 use Rattle.trits.specs.declared.Vector.{Vector}
-use Rattle.wire.proofs.WireLaw.{slots-long}
+use Rattle.opening.proofs.ShapeLaw.{slots-long}
 use Rattle.wire.specs.Wire.{wordsFrom}
 use Rattle.wire.proofs.WireLaw.{front, five, length-five, write-turn, words-nil}
 use Rattle.wire.proofs.put_first.Statement.{statement}

@@ -18,10 +18,10 @@ slice-relend-prefix-put-first : tie.Need-slice-relend-prefix-put-first
 slice-relend-prefix-put-first c = search needs
 
 slice-aggregate-put-first : tie.Need-slice-aggregate-put-first
-slice-aggregate-put-first c = let s = c .before .before in sym (length-take-le 45 (s .args .w .now) (omega (arith, s .pre)))
+slice-aggregate-put-first c = sym (length-take-le 45 (c .before .before .before .before .args .w .now) (omega (arith, c .before .before .before .before .pre)))
 
 put-first-requires : tie.Need-put-first-requires
-put-first-requires c κs = let s = c .before .before in length-take-le 45 (s .args .w .now) (omega (arith, s .pre))
+put-first-requires c κs = length-take-le 45 (c .before .before .before .before .args .w .now) (omega (arith, c .before .before .before .before .pre))
 
 sub-put-seconds : tie.Need-sub-put-seconds
 sub-put-seconds c = search needs
@@ -40,11 +40,10 @@ same-length c = search needs
 
 returns : tie.Need-returns
 returns c =
-    let s = c .before .before .before .before .before .before .before .before .before .before in
-    let w = s .args .w .now in
+    let w = c .before .before .before .before .before .before .before .before .before .before .before .before .args .w .now in
     let p = c .before .before .before .before .before .before .before .put-first in
     let x = p .last .1 .0 in
-    let n : length x ≡ 45 = p .kept .1 .0 ∙ length-take-le 45 w (omega (arith, s .pre)) in
+    let n : length x ≡ 45 = p .kept .1 .0 ∙ length-take-le 45 w (omega (arith, c .before .before .before .before .before .before .before .before .before .before .before .before .pre)) in
     put-parts w x _ (length (x ++ drop 45 w) - 45) n (omega (arith, length-append x (drop 45 w), n))
     ∙ ap₂ (λ (u v : List ℕ). u ++ v) (p .ensures) (c .before .before .put-seconds .ensures)
 
