@@ -44,8 +44,7 @@ fn fits_three(n: u64, m: u64, table: &[u64], f: First, seconds: &[u64]) -> bool
     if !same_first(f, first) {
         return false;
     }
-    let own = o.seconds;
-    same_seconds(seconds, &own)
+    same_seconds(seconds, &o.seconds)
 }
 
 // Whether a record is that of a checked table at its place.

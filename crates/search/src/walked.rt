@@ -99,8 +99,7 @@ fn walked_three(
     let left = t.walker;
     let value = left.value;
     let slots = left.slots;
-    let moved = left.seconds;
-    copy(&moved, seconds);
+    copy(&left.seconds, seconds);
     Went {
         first: First {
             n,

@@ -25,10 +25,6 @@ returns c =
     let a = c .before .before .before .before .before .before .before .args in
     three-first (a .f) (a .seconds .now) _ _ (c .before .before .before .before .record-at .ensures) (sym (c .before .same-first .ensures) ∙ not-true _ (c .if1 .taken))
 
--- src/judging.rt:48:27
-slice-aggregate-same-seconds : tie.Need-slice-aggregate-same-seconds
-slice-aggregate-same-seconds c = search needs
-
 -- src/judging.rt:48:5
 same-seconds-requires : tie.Need-same-seconds-requires
 same-seconds-requires c κs = search needs
@@ -36,8 +32,8 @@ same-seconds-requires c κs = search needs
 -- src/judging.rt:30:1
 returns-2 : tie.Need-returns-2
 returns-2 c = 
-    let a = c .before .before .before .before .before .before .before .before .before .before .args in
-    c .same-seconds .ensures ∙ three-seconds (a .f) (a .seconds .now) _ _ (c .before .before .before .before .before .before .before .record-at .ensures) (sym (c .before .before .before .before .same-first .ensures) ∙ not-false _ (c .before .before .before .if1 .left))
+    let a = c .before .before .before .before .before .before .before .before .before .before .before .args in
+    c .same-seconds .ensures ∙ three-seconds (a .f) (a .seconds .now) _ _ (c .before .before .before .before .before .before .before .before .record-at .ensures) (sym (c .before .before .before .before .before .same-first .ensures) ∙ not-false _ (c .before .before .before .before .if1 .left))
 
 pub fits-three-spec : {M : Type 1} → statement M
 fits-three-spec =
@@ -46,6 +42,5 @@ fits-three-spec =
     record-at-requires
     same-first-requires
     returns
-    slice-aggregate-same-seconds
     same-seconds-requires
     returns-2)

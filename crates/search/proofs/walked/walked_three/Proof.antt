@@ -34,10 +34,6 @@ run-requires c κs =
     let w = within (cubic (a .n) (a .m) (a .table .now)) (c .before .before .before .before .before .before .before .before .before .before .pre .0) in
     (record { some = w .least; small = w .most; table = cubic-table-of (a .n) (a .m) (a .table .now) (c .before .before .before .before .before .before .before .before .before .before .pre .0) .size; end = omega (arith, c .before .before .before .before .before .before .before .before .before .before .pre .2) }, omega (arith, c .before .before .before .before .before .before .before .before .before .before .pre .2, fits-place (cubic (a .n) (a .m) (a .table .now)) (wholeOf Three (a .s) (a .seconds .now)) (c .before .before .before .before .before .before .before .before .before .before .pre .1)))
 
--- src/walked.rt:103:10
-slice-aggregate-copy-2 : tie.Need-slice-aggregate-copy-2
-slice-aggregate-copy-2 c = search needs
-
 -- src/walked.rt:103:5
 copy-requires-2 : tie.Need-copy-requires-2
 copy-requires-2 c κs = search needs
@@ -53,11 +49,11 @@ same-length-2 c = search needs
 -- src/walked.rt:75:1
 returns : tie.Need-returns
 returns c = 
-    let a = c .before .before .before .before .before .before .before .before .before .before .before .before .before .before .before .before .before .before .before .before .before .before .args in
-    let x = c .before .before .before .before .before .before .before .before .before .before .before .run in
-    three-leaves (a .n) (a .m) (a .table .now) (c .before .before .before .before .before .before .before .before .before .before .before .before .before .before .before .before .before .before .before .before .before .before .pre .0) (wholeOf Three (a .s) (a .seconds .now)) (c .before .before .before .before .before .before .before .before .before .before .before .before .before .before .before .before .before .before .before .before .before .before .pre .1) (a .budget) (a .end) (a .list .now) _ (x .result) (c .before .before .before .before .before .before .before .before .before .before .before .before .before .before .before .before .before .before .before .before .before .before .pre .2)
+    let a = c .before .before .before .before .before .before .before .before .before .before .before .before .before .before .before .before .before .before .before .before .before .before .before .args in
+    let x = c .before .before .before .before .before .before .before .before .before .before .before .before .run in
+    three-leaves (a .n) (a .m) (a .table .now) (c .before .before .before .before .before .before .before .before .before .before .before .before .before .before .before .before .before .before .before .before .before .before .before .pre .0) (wholeOf Three (a .s) (a .seconds .now)) (c .before .before .before .before .before .before .before .before .before .before .before .before .before .before .before .before .before .before .before .before .before .before .before .pre .1) (a .budget) (a .end) (a .list .now) _ (x .result) (c .before .before .before .before .before .before .before .before .before .before .before .before .before .before .before .before .before .before .before .before .before .before .before .pre .2)
     (simp length-map at (x .ok .1 .1 .0 .1 .1 .1 .1 .0 .1 .0 .1))
-    (x .ensures .0 ∙ ap (λ (y : List ℕ). searchOf (a .table .now) (a .n) (a .end) (a .budget) (fresh (record { place = a .s .place .0; value = a .s .value; slots = a .s .slots; seconds = y }) (a .list .now))) (c .before .before .before .before .before .before .before .before .before .before .before .before .before .before .copy .ensures))
+    (x .ensures .0 ∙ ap (λ (y : List ℕ). searchOf (a .table .now) (a .n) (a .end) (a .budget) (fresh (record { place = a .s .place .0; value = a .s .value; slots = a .s .slots; seconds = y }) (a .list .now))) (c .before .before .before .before .before .before .before .before .before .before .before .before .before .before .before .copy .ensures))
     _ (c .before .before .copy2 .ensures)
 
 pub walked-three-spec : {M : Type 1} → statement M
@@ -67,7 +63,6 @@ walked-three-spec =
     slice-aggregate-copy
     copy-requires
     run-requires
-    slice-aggregate-copy-2
     copy-requires-2
     same-length
     same-length-2
