@@ -51,14 +51,7 @@ fn write_answer(end: u64, a: Report, b: &mut [u8])
 
 // Writes what a call gives on a walk that ends at place `end`: the record's first part f, as many words of its second slots as there are in s,
 // and the answer; or with a refusal nothing.
-pub fn finish(
-    end: u64,
-    a: Answer,
-    f: First,
-    s: &[u64],
-    record: &mut [u8],
-    answer: &mut [u8],
-) -> u64
+pub fn finish(end: u64, a: Answer, f: First, s: &[u64], record: &mut [u8], answer: &mut [u8]) -> u64
     requires { ⌜ (length (now «record») ≡ recordLength) × (length (now answer) ≡ answerLength) × (length (now s) ≤ secondWords) ⌝ }
     ensures { λ c. ⌜ (c ≡ answerNumber a)
         × (now («record» .exit) ≡ recordBytes a f (now (s .entry)) (now («record» .entry)))

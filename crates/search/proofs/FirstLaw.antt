@@ -81,8 +81,8 @@ two-parts n m t r long some s false e =
     inr (
       refuted (fits g w) (λ h. let i : w .n ≡ n = ap (λ (x : Record). x .n) (fits-opened g w h) in absurd (omega (arith, n0, i, some))),
       refuted (fits g r) (λ h.
-      let i : r .seconds ≡ replicate 420 0 = ap (λ (x : Record). x .seconds) (fits-opened g r h) ∙ sym (seconds-two n m t (p - 1)) in
-      false≢true (sym e ∙ ap allZero i ∙ zeros-all 420)),
+          let i : r .seconds ≡ replicate 420 0 = ap (λ (x : Record). x .seconds) (fits-opened g r h) ∙ sym (seconds-two n m t (p - 1)) in
+          false≢true (sym e ∙ ap allZero i ∙ zeros-all 420)),
     )
 
 parts-same : (d : Degree) (n m : ℕ) (t : List ℕ) (r : Record) → length (r .seconds) ≡ 420 → 1 ≤ n → (s : List ℕ) → secondsFrom d s ≡ secondsFrom d (r .seconds)

@@ -28,13 +28,7 @@ pub fn n_for(degree: Degree, n: u64, zero: bool) -> u64
     ensures { λ r. ⌜ r ≡ nFor degree n zero ⌝ }
 {
     match degree {
-        Degree::Two => {
-            if zero {
-                n
-            } else {
-                0
-            }
-        }
+        Degree::Two => { if zero { n } else { 0 } }
         Degree::Three => n,
     }
 }
@@ -82,4 +76,3 @@ pub(crate) fn joined(o: Moved, r: Record, seconds: [u64; SECOND_WORDS]) -> Outco
         }
     }
 }
-

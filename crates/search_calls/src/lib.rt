@@ -152,12 +152,34 @@ fn over_bytes(
         Degree::Two => {
             let mut words = [0u64; MOST_WORDS];
             let mut none = [0u64; 1];
-            over_words(degree, n, m, table, record, budget, &mut words, &mut none[..0], list, answer)
+            over_words(
+                degree,
+                n,
+                m,
+                table,
+                record,
+                budget,
+                &mut words,
+                &mut none[..0],
+                list,
+                answer,
+            )
         }
         Degree::Three => {
             let mut words = [0u64; MOST_CUBIC_WORDS];
             let mut seconds = [0u64; SECOND_WORDS];
-            over_words(degree, n, m, table, record, budget, &mut words, &mut seconds, list, answer)
+            over_words(
+                degree,
+                n,
+                m,
+                table,
+                record,
+                budget,
+                &mut words,
+                &mut seconds,
+                list,
+                answer,
+            )
         }
     }
 }

@@ -51,7 +51,7 @@ did-requires c κs = search needs
 -- src/lib.rt:79:19
 slice-reshare-prefix-encode : tie.Need-slice-reshare-prefix-encode
 slice-reshare-prefix-encode c =
-        let a = c .before .before .before .before .before .before .before .before .before .before .before .before .before .args in
+    let a = c .before .before .before .before .before .before .before .before .before .before .before .before .before .args in
     let n = c .before .before .before .before .before .before .before .before .lesser .result in
     let h : n ≤ length (a .words .now) = omega (arith, c .before .before .before .before .before .before .before .before .lesser .ensures) in
     let e = ap (λ (w : Report). w .found) (c .did .ensures) in
@@ -60,7 +60,7 @@ slice-reshare-prefix-encode c =
 -- src/lib.rt:79:19
 slice-aggregate-encode : tie.Need-slice-aggregate-encode
 slice-aggregate-encode c =
-        let a = c .before .before .before .before .before .before .before .before .before .before .before .before .before .before .args in
+    let a = c .before .before .before .before .before .before .before .before .before .before .before .before .before .before .args in
     let n = c .before .before .before .before .before .before .before .before .before .lesser .result in
     let h : n ≤ length (a .words .now) = omega (arith, c .before .before .before .before .before .before .before .before .before .lesser .ensures) in
     let e = ap (λ (w : Report). w .found) (c .before .did .ensures) in
@@ -69,7 +69,7 @@ slice-aggregate-encode c =
 -- src/lib.rt:79:5
 encode-requires : tie.Need-encode-requires
 encode-requires c κs =
-        let a = c .before .before .before .before .before .before .before .before .before .before .before .before .before .before .before .args in
+    let a = c .before .before .before .before .before .before .before .before .before .before .before .before .before .before .before .args in
     let n = c .before .before .before .before .before .before .before .before .before .before .lesser .result in
     let h : n ≤ length (a .words .now) = omega (arith, c .before .before .before .before .before .before .before .before .before .before .lesser .ensures) in
     let e = ap (λ (w : Report). w .found) (c .before .before .did .ensures) in
@@ -90,7 +90,7 @@ same-length-3 c = search needs
 -- src/lib.rt:59:1
 returns : tie.Need-returns
 returns c =
-        let a = c .before .before .before .before .before .before .before .before .before .before .before .before .before .before .before .before .before .before .args in
+    let a = c .before .before .before .before .before .before .before .before .before .before .before .before .before .before .before .before .before .before .args in
     let n = c .before .before .before .before .before .before .before .before .before .before .before .before .before .lesser .result in
     let h : n ≤ length (a .words .now) = omega (arith, c .before .before .before .before .before .before .before .before .before .before .before .before .before .lesser .ensures) in
     let e = ap (λ (w : Report). w .found) (c .before .before .before .before .before .did .ensures) in

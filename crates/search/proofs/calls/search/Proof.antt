@@ -37,13 +37,13 @@ array-borrow-prefix-seconds c = omega (arith, c .lent-words .ensures, lent-most 
 
 -- src/calls.rt:125:42
 slice-aggregate-call : tie.Need-slice-aggregate-call
-slice-aggregate-call c = 
+slice-aggregate-call c =
     let h = c .before .lent-words .ensures in
     sym (length-take-le (c .before .lent-words .result) (c .before .before .before .before .before .before .args .r .seconds) (omega (arith, h, lent-most (c .before .before .before .before .before .before .args .degree), seconds-long (c .before .before .before .before .before .before .args .r) _ (c .before .before .before .before .before .before .good .1 .1 .1 .1 .0))))
 
 -- src/calls.rt:125:9
 call-requires : tie.Need-call-requires
-call-requires c κs = 
+call-requires c κs =
     let h = c .before .before .lent-words .ensures in
     length-take-le (c .before .before .lent-words .result) (c .before .before .before .before .before .before .before .args .r .seconds) (omega (arith, h, lent-most (c .before .before .before .before .before .before .before .args .degree), seconds-long (c .before .before .before .before .before .before .before .args .r) _ (c .before .before .before .before .before .before .before .good .1 .1 .1 .1 .0))) ∙ h
 
@@ -57,7 +57,7 @@ same-length c = search needs
 
 -- src/calls.rt:109:1
 returns : tie.Need-returns
-returns c = 
+returns c =
     let a = c .before .before .before .before .before .before .before .before .before .before .before .before .args in
     let s = a .r .seconds in
     let long = seconds-long (a .r) _ (c .before .before .before .before .before .before .before .before .before .before .before .before .good .1 .1 .1 .1 .0) in

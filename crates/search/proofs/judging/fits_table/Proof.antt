@@ -26,7 +26,7 @@ power-requires c κs = search needs
 
 -- src/judging.rt:57:9
 returns : tie.Need-returns
-returns c = 
+returns c =
     let a = c .before .before .before .before .before .args in
     let g = (tableWith (a .degree) (a .n) (a .m) (a .table .now)) in
     let p : c .before .before .power .result ≡ 3 ^ a .n = c .before .before .power .ensures .0 (omega (arith, within (tableWith (a .degree) (a .n) (a .m) (a .table .now)) (c .before .before .before .before .before .pre .0) .most)) in
@@ -38,7 +38,7 @@ enum-told c = search needs
 
 -- src/judging.rt:60:24
 fits-two-requires : tie.Need-fits-two-requires
-fits-two-requires c κs = 
+fits-two-requires c κs =
     let a = c .before .before .before .before .before .before .before .args in
     let p : c .before .before .before .before .power .result ≡ 3 ^ a .n = c .before .before .before .before .power .ensures .0 (omega (arith, within (tableWith (a .degree) (a .n) (a .m) (a .table .now)) (c .before .before .before .before .before .before .before .pre .0) .most)) in
     (subst (λ (d : Degree). Checked (tableWith d (a .n) (a .m) (a .table .now))) (c .enum-told .given .1) (c .before .before .before .before .before .before .before .pre .0), omega (arith, p, c .before .before .if1 .left))
@@ -49,7 +49,7 @@ enum-told-2 c = search needs
 
 -- src/judging.rt:61:26
 fits-three-requires : tie.Need-fits-three-requires
-fits-three-requires c κs = 
+fits-three-requires c κs =
     let a = c .before .before .before .before .before .before .before .args in
     let e = c .enum-told2 .given .1 in
     let p : c .before .before .before .before .power .result ≡ 3 ^ a .n = c .before .before .before .before .power .ensures .0 (omega (arith, within (tableWith (a .degree) (a .n) (a .m) (a .table .now)) (c .before .before .before .before .before .before .before .pre .0) .most)) in
@@ -57,14 +57,14 @@ fits-three-requires c κs =
 
 -- src/judging.rt:52:1
 returns-2 : tie.Need-returns-2
-returns-2 c = 
+returns-2 c =
     let a = c .before .before .before .before .before .before .before .before .args in
     let p : c .before .before .before .before .before .power .result ≡ 3 ^ a .n = c .before .before .before .before .before .power .ensures .0 (omega (arith, within (tableWith (a .degree) (a .n) (a .m) (a .table .now)) (c .before .before .before .before .before .before .before .before .pre .0) .most)) in
     c .fits-two .ensures ∙ fitting _ _ (c .before .enum-told .given .1) (a .n) (a .m) (a .table .now) (a .f) (a .seconds .now) (omega (arith, p, c .before .before .before .if1 .left))
 
 -- src/judging.rt:52:1
 returns-3 : tie.Need-returns-3
-returns-3 c = 
+returns-3 c =
     let a = c .before .before .before .before .before .before .before .before .args in
     let p : c .before .before .before .before .before .power .result ≡ 3 ^ a .n = c .before .before .before .before .before .power .ensures .0 (omega (arith, within (tableWith (a .degree) (a .n) (a .m) (a .table .now)) (c .before .before .before .before .before .before .before .before .pre .0) .most)) in
     c .fits-three .ensures ∙ fitting _ _ (c .before .enum-told2 .given .1) (a .n) (a .m) (a .table .now) (a .f) (a .seconds .now) (omega (arith, p, c .before .before .before .if1 .left))

@@ -21,7 +21,7 @@ same-first-requires c κs = search needs
 
 -- src/judging.rt:45:9
 returns : tie.Need-returns
-returns c = 
+returns c =
     let a = c .before .before .before .before .before .before .before .args in
     three-first (a .f) (a .seconds .now) _ _ (c .before .before .before .before .record-at .ensures) (sym (c .before .same-first .ensures) ∙ not-true _ (c .if1 .taken))
 
@@ -31,7 +31,7 @@ same-seconds-requires c κs = search needs
 
 -- src/judging.rt:30:1
 returns-2 : tie.Need-returns-2
-returns-2 c = 
+returns-2 c =
     let a = c .before .before .before .before .before .before .before .before .before .before .before .args in
     c .same-seconds .ensures ∙ three-seconds (a .f) (a .seconds .now) _ _ (c .before .before .before .before .before .before .before .before .record-at .ensures) (sym (c .before .before .before .before .before .same-first .ensures) ∙ not-false _ (c .before .before .before .before .if1 .left))
 

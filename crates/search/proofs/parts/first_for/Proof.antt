@@ -20,7 +20,7 @@ n-for-requires c κs = search needs
 
 -- src/parts.rt:43:1
 returns : tie.Need-returns
-returns c = 
+returns c =
     let r = c .before .before .before .before .before .args .r in
     let e = c .before .before .n-for .ensures ∙ ap (nFor (c .before .before .before .before .before .args .degree) (r .n)) (c .before .before .before .no-seconds .ensures) in
     ap (λ (n : ℕ). record { n = n; m = r .m; place = r .place; value = r .value; slots = r .slots }) e

@@ -49,14 +49,14 @@ loop-less c = search needs
 
 -- src/records.rt:45:5
 loop-again : tie.Need-loop-again Inv-loop μ-loop
-loop-again c = 
+loop-again c =
     let l = c .before .before .before .loop in
     let a = c .before .before .before .before .args in
     (omega (arith, c .before .before .loop-test .taken), l .inv .1, l .inv .2, differ-go (a .a .now) (a .b .now) (l .differ) (l .i) _ (l .inv .3) (omega (arith, l .inv .1, c .before .before .loop-test .taken)) (omega (arith, l .inv .2, c .before .before .loop-test .taken)))
 
 -- src/records.rt:39:1
 returns : tie.Need-returns Inv-loop μ-loop
-returns c = 
+returns c =
     let l = c .before .loop in
     let a = c .before .before .args in
     differ-end (a .a .now) (a .b .now) (l .differ) (l .i) _ (l .inv .3) (omega (arith, l .inv .1, c .loop-test .left)) (omega (arith, l .inv .2, c .loop-test .left))

@@ -48,7 +48,7 @@ loop-less c = search needs
 
 -- src/walked.rt:31:5
 loop-again : tie.Need-loop-again Inv-loop μ-loop
-loop-again c = 
+loop-again c =
     let l = c .before .before .loop in
     let s = c .before .before .before .args .from .now in
     (omega (arith, c .before .loop-test .taken), l .inv .1, length-set (l .into) (l .i) (getD s (l .i) 0) ∙ l .inv .2, one (l .into) s (l .i) (omega (arith, l .inv .2, c .before .loop-test .taken)) (omega (arith, l .inv .1, c .before .loop-test .taken)) (l .inv .3))
@@ -64,7 +64,7 @@ same-length c = search needs
 
 -- src/walked.rt:26:1
 returns : tie.Need-returns Inv-loop μ-loop
-returns c = 
+returns c =
     let l = c .before .loop in
     let s = c .before .before .args .from .now in
     sym (take-all (l .i) (l .into) (omega (arith, l .inv .2, c .loop-test .left))) ∙ l .inv .3 ∙ take-all (l .i) s (omega (arith, l .inv .1, c .loop-test .left))

@@ -20,7 +20,7 @@ enum-told c = search needs
 
 -- src/walked.rt:133:24
 walked-two-requires : tie.Need-walked-two-requires
-walked-two-requires c κs = 
+walked-two-requires c κs =
     let a = c .before .before .before .before .before .before .args in
     let e = c .before .enum-told .given .1 in
     (subst (λ (d : Degree). Checked (tableWith d (a .n) (a .m) (a .table .now))) e (c .before .before .before .before .before .before .pre .0), subst (λ (d : Degree). fits (tableWith d (a .n) (a .m) (a .table .now)) (wholeOf d (a .f) (a .seconds .now)) ≡ true) e (c .before .before .before .before .before .before .pre .1), c .before .before .before .before .before .before .pre .2)
@@ -31,7 +31,7 @@ enum-told-2 c = search needs
 
 -- src/walked.rt:134:26
 walked-three-requires : tie.Need-walked-three-requires
-walked-three-requires c κs = 
+walked-three-requires c κs =
     let a = c .before .before .before .before .before .before .before .args in
     let e = c .before .before .enum-told2 .given .1 in
     (subst (λ (d : Degree). Checked (tableWith d (a .n) (a .m) (a .table .now))) e (c .before .before .before .before .before .before .before .pre .0), subst (λ (d : Degree). fits (tableWith d (a .n) (a .m) (a .table .now)) (wholeOf d (a .f) (a .seconds .now)) ≡ true) e (c .before .before .before .before .before .before .before .pre .1), c .before .before .before .before .before .before .before .pre .2, c .before .before .before .before .before .before .before .pre .3 ∙ ap lentWords e)
@@ -42,7 +42,7 @@ same-length c = search needs
 
 -- src/walked.rt:118:1
 returns : tie.Need-returns
-returns c = 
+returns c =
     let a = c .before .before .before .before .before .before .before .before .before .args in
     let x = c .before .before .walked-two in
     leaves-by _ _ (c .before .before .before .before .enum-told .given .1) (a .n) (a .m) (a .table .now) (a .f .place .0) (a .budget) (a .list .now) _ (a .seconds .now) (x .result) (x .ensures (a .seconds .now))
@@ -57,7 +57,7 @@ same-length-3 c = search needs
 
 -- src/walked.rt:118:1
 returns-2 : tie.Need-returns-2
-returns-2 c = 
+returns-2 c =
     let a = c .before .before .before .before .before .before .before .before .before .before .before .before .args in
     let y = c .before .before .before .before .walked-three in
     leaves-by _ _ (c .before .before .before .before .before .before .before .enum-told2 .given .1) (a .n) (a .m) (a .table .now) (a .f .place .0) (a .budget) (a .list .now) _ _ (y .result) (y .ensures)

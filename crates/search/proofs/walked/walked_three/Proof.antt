@@ -29,7 +29,7 @@ copy-requires c κs = search needs
 
 -- src/walked.rt:98:9
 run-requires : tie.Need-run-requires
-run-requires c κs = 
+run-requires c κs =
     let a = c .before .before .before .before .before .before .before .before .before .before .args in
     let w = within (cubic (a .n) (a .m) (a .table .now)) (c .before .before .before .before .before .before .before .before .before .before .pre .0) in
     (record { some = w .least; small = w .most; table = cubic-table-of (a .n) (a .m) (a .table .now) (c .before .before .before .before .before .before .before .before .before .before .pre .0) .size; end = omega (arith, c .before .before .before .before .before .before .before .before .before .before .pre .2) }, omega (arith, c .before .before .before .before .before .before .before .before .before .before .pre .2, fits-place (cubic (a .n) (a .m) (a .table .now)) (wholeOf Three (a .s) (a .seconds .now)) (c .before .before .before .before .before .before .before .before .before .before .pre .1)))
@@ -48,7 +48,7 @@ same-length-2 c = search needs
 
 -- src/walked.rt:75:1
 returns : tie.Need-returns
-returns c = 
+returns c =
     let a = c .before .before .before .before .before .before .before .before .before .before .before .before .before .before .before .before .before .before .before .before .before .before .before .args in
     let x = c .before .before .before .before .before .before .before .before .before .before .before .before .run in
     three-leaves (a .n) (a .m) (a .table .now) (c .before .before .before .before .before .before .before .before .before .before .before .before .before .before .before .before .before .before .before .before .before .before .before .pre .0) (wholeOf Three (a .s) (a .seconds .now)) (c .before .before .before .before .before .before .before .before .before .before .before .before .before .before .before .before .before .before .before .before .before .before .before .pre .1) (a .budget) (a .end) (a .list .now) _ (x .result) (c .before .before .before .before .before .before .before .before .before .before .before .before .before .before .before .before .before .before .before .before .before .before .before .pre .2)
