@@ -1,4 +1,6 @@
 // What a call of the search writes for C, by its answer: the record and the answer as bytes. Contracts cite specs/Written.
+#![tactic(auto)]
+
 ghost use Rattle.std.specs.Prelude.{◌≡◌, ◌≤◌, length};
 ghost use Rattle.codec.specs.Codec.{bytes_from};
 ghost use Rattle.walks.specs.Calls.{stop_number, stop_place};

@@ -1,5 +1,7 @@
 // Balanced numbers: digit 2 of a point read as -1. Adding (3^n - 1) / 2 makes each digit one larger modulo 3.
 // Contracts cite specs/Balanced and Answers (refusals).
+#![tactic(auto)]
+
 ghost use Rattle.std.specs.Prelude.{◌≡◌, ◌≤◌, pos, ◌-ℤ◌};
 ghost use Rattle.refusals.specs.Limits.{most_unknowns};
 ghost use Rattle.balanced.specs.Balanced.{turned, balanced_of, unbalanced_of};

@@ -10,7 +10,7 @@ use moves::{Moved, jot, raise};
 use trits::Vector;
 
 // What moves inside a block: the value, the slots of unknowns 0 to 2, and the counts. Flat, so that it stays in registers.
-#[derive(Drop)]
+#[derive(Clone, Copy)]
 pub struct Part {
     pub value: Vector,
     pub s0: Vector,
@@ -22,7 +22,7 @@ pub struct Part {
 }
 
 // The table's entries of the products of unknowns 0 to 2.
-#[derive(Drop)]
+#[derive(Clone, Copy)]
 pub struct Top {
     pub t00: Vector,
     pub t01: Vector,

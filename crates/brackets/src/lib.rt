@@ -1,5 +1,7 @@
 // The brackets of a table's products of three, and the sums of them of which differences and coefficients come.
 // [ijk] is the coefficient of xi·xj·xk, twice it where two of the three are the same. Contracts cite specs/Brackets.
+#![tactic(auto)]
+
 ghost use Rattle.std.specs.Prelude.{◌≡◌, List, ℕ, ◌+◌, ◌*◌, ◌<◌, ◌≤◌, length};
 ghost use Rattle.refusals.specs.Limits.{most_unknowns};
 ghost use Rattle.trits.specs.Trit.{Holds};

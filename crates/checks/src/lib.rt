@@ -1,5 +1,7 @@
 // What is refused before an operation on tables starts: sizes, lengths and illegal pairs, in this order.
 // Contracts cite tables/specs/Answers.
+#![tactic(auto)]
+
 ghost use Rattle.std.specs.Prelude.{◌≡◌, List, ℕ, ◌*◌, ◌^◌, ◌<◌, length};
 ghost use Rattle.refusals.specs.Refusal.{code_of};
 ghost use Rattle.tables.specs.Monomials.{count_of};

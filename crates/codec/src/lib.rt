@@ -1,5 +1,7 @@
 // 64-bit words as bytes, the lowest byte first.
 // Contracts cite specs/Codec (values of bytes, bytes of words, and what stands where afterwards).
+#![tactic(auto)]
+
 ghost use Rattle.std.specs.Prelude.{◌≡◌, ◌++◌, ◌+◌, ◌*◌, ◌<◌, ◌≤◌, ◌%◌, length, take, drop};
 ghost use Rattle.codec.specs.Codec.{value_of, bytes_of, word_at, words_of, bytes_from, pasted};
 

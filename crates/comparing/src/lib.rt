@@ -1,4 +1,6 @@
 // Two records are compared whole, field by field, the second slots by themselves. Contracts cite outcomes/specs/Search and outcomes/specs/First.
+#![tactic(auto)]
+
 ghost use Rattle.std.specs.Prelude.{◌≡◌, eqb, length};
 ghost use Rattle.refusals.specs.Limits.{second_words};
 ghost use Rattle.opening.specs.First.{all_zero};

@@ -1,5 +1,7 @@
 // Blocks of 27 places of the cubic walk, from one that 27 divides.
 // Contracts cite specs/Parts: what a block does in the code's terms.
+#![tactic(auto)]
+
 ghost use Rattle.std.specs.Prelude.{◌≡◌, List, ◌∷◌, ℕ, ◌+◌, ◌-◌, ◌*◌, ◌%◌, ◌^◌, ◌<◌, ◌≤◌, length, get_or, set};
 ghost use Rattle.trits.specs.declared.Vector.{Vector};
 ghost use Rattle.trits.specs.Trit.{none};

@@ -13,7 +13,7 @@ use tables::vector;
 use trits::Vector;
 
 // Where the triples stand: that of 0, 1 or 2 and the pair number p is entry k0, k1 or k2 + p; pair (1, c) is number p1 + c, pair (2, c) p2 + c.
-#[derive(Drop)]
+#[derive(Clone, Copy)]
 pub struct Keys {
     pub k0: usize,
     pub k1: usize,

@@ -1,4 +1,6 @@
 // One product of three of the differences of a cubic table, and one coefficient back. Contracts cite brackets/specs/Brackets.
+#![tactic(auto)]
+
 ghost use Rattle.std.specs.Prelude.{◌≡◌, List, ℕ, ◌*◌, ◌<◌, ◌≤◌, length};
 ghost use Rattle.refusals.specs.Limits.{most_unknowns};
 ghost use Rattle.trits.specs.Trit.{Holds};

@@ -1,5 +1,7 @@
 // The coefficients of a cubic table of differences: the products of three first, what they added to the rest taken off, then the rest as in degree 2.
 // Contracts cite cubic_tables/specs/Words and Answers.
+#![tactic(auto)]
+
 ghost use Rattle.std.specs.Prelude.{◌≡◌, ℕ, ◌*◌, ◌≤◌, length};
 ghost use Rattle.refusals.specs.Limits.{most_unknowns};
 ghost use Rattle.refusals.specs.Refusal.{code_of};

@@ -1,5 +1,7 @@
 // The table of differences of a cubic coefficient table: the part of degree 2 as in degree 2, what the products of three add to it, then the products
 // of three themselves. Contracts cite cubic_tables/specs/Words and Answers. The way back is the crate cubic_coefficients.
+#![tactic(auto)]
+
 ghost use Rattle.std.specs.Prelude.{◌≡◌, ℕ, ◌*◌, ◌≤◌, length};
 ghost use Rattle.refusals.specs.Limits.{most_unknowns};
 ghost use Rattle.refusals.specs.Refusal.{code_of};

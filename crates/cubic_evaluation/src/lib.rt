@@ -1,5 +1,7 @@
 // The value of a cubic system at a point, from its coefficient table: products with an unknown that is 0 are passed over.
 // Contracts cite cubic_tables/specs/Words and cubic_tables/specs/Answers.
+#![tactic(auto)]
+
 ghost use Rattle.std.specs.Prelude.{◌≡◌, ℕ, ◌*◌, ◌≤◌, length, get_or};
 ghost use Rattle.refusals.specs.Limits.{most_unknowns};
 ghost use Rattle.trits.specs.Trit.{Holds, of_trits};

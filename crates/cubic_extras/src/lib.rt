@@ -1,4 +1,6 @@
 // What the products of three add to the differences of degree up to 2. Contracts cite brackets/specs/Brackets.
+#![tactic(auto)]
+
 ghost use Rattle.std.specs.Prelude.{◌≡◌, List, ℕ, ◌*◌, ◌<◌, ◌≤◌, length};
 ghost use Rattle.refusals.specs.Limits.{most_unknowns};
 ghost use Rattle.trits.specs.Trit.{Holds};

@@ -1,5 +1,7 @@
 // One place of the cubic walk: a second slot, a slot and the value, each brought up by what is before it.
 // Contracts cite specs/Step (what one place does) and specs/Moves (what the code of a move holds). Additions, counts and points are those of moves.
+#![tactic(auto)]
+
 ghost use Rattle.std.specs.Prelude.{◌≡◌, ◌∷◌, ℕ, ◌+◌, ◌*◌, ◌^◌, ◌<◌, ◌≤◌, length, get_or};
 ghost use Rattle.refusals.specs.Limits.{most_unknowns};
 ghost use Rattle.trits.specs.Trit.{none};

@@ -1,5 +1,7 @@
 // What the walk record of a cubic table holds after a place, by counting from the table: no walking, the same work at every place.
 // Contracts cite given/specs/Slots.
+#![tactic(auto)]
+
 ghost use Rattle.std.specs.Prelude.{◌≡◌, ℕ, ◌*◌, ◌^◌, ◌<◌, ◌≤◌, length};
 ghost use Rattle.refusals.specs.Limits.{most_unknowns};
 ghost use Rattle.cubic_tables.specs.Order.{cubic_count};

@@ -1,5 +1,7 @@
 // What an unknown of a point that is not 0 is multiplied by in the value of a cubic system: products with an unknown that is 0 are passed over.
 // Contracts cite specs/Parts, for the code alone: what the steps sum.
+#![tactic(auto)]
+
 ghost use Rattle.std.specs.Prelude.{◌≡◌, ℕ, ◌*◌, ◌<◌, ◌≤◌, length, get_or};
 ghost use Rattle.refusals.specs.Limits.{most_unknowns};
 ghost use Rattle.trits.specs.Trit.{Holds};

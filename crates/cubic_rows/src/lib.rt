@@ -1,4 +1,6 @@
 // Signed rows of cubics into words. Contracts cite cubic_tables/specs/Answers.
+#![tactic(auto)]
+
 ghost use Rattle.std.specs.Prelude.{◌≡◌};
 ghost use Rattle.refusals.specs.Refusal.{code_of};
 ghost use Rattle.cubic_tables.specs.Answers.{cubic_pack_verdict, cubic_pack_after};

@@ -1,6 +1,8 @@
 // The slots of a cubic record at any place, from its table of differences: each entry of a row as often as it was added to the slot of that row so far,
 // modulo 3. No walking, no coefficients.
 // Contracts cite specs/Slots (what slots are); specs/Parts says what the steps do. The value is worked out by the same weights (crate cubic_value).
+#![tactic(auto)]
+
 ghost use Rattle.std.specs.Prelude.{◌≡◌, [], ◌∷◌, ℕ, ◌+◌, ◌-◌, ◌*◌, ◌/◌, ◌^◌, ◌<◌, ◌≤◌, length};
 ghost use Rattle.refusals.specs.Limits.{most_unknowns};
 ghost use Rattle.trits.specs.Trit.{Holds};

@@ -1,5 +1,7 @@
 // The two parts of a cubic table on the way to its differences and on the way back: the products of three one after the other, and what they add to
 // the entries of degree up to 2, or take off. Contracts cite specs/Parts, for the code alone.
+#![tactic(auto)]
+
 ghost use Rattle.std.specs.Prelude.{◌≡◌, List, ℕ, ◌+◌, ◌*◌, ◌<◌, ◌≤◌, length};
 ghost use Rattle.refusals.specs.Limits.{most_unknowns};
 ghost use Rattle.trits.specs.Trit.{Legal, Holds};

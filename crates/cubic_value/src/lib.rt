@@ -1,5 +1,7 @@
 // The value of a cubic system at the point of any place, from its table of differences: each entry as often as it has come to the value so far, modulo 3.
 // No walking, no coefficients. The contract of value_after cites cubics/specs; specs/Parts says what the steps sum.
+#![tactic(auto)]
+
 ghost use Rattle.std.specs.Prelude.{◌≡◌, [], ◌∷◌, ℕ, ◌+◌, ◌-◌, ◌*◌, ◌/◌, ◌^◌, ◌<◌, ◌≤◌, length};
 ghost use Rattle.refusals.specs.Limits.{most_unknowns};
 ghost use Rattle.residues.specs.Sums.{sum};

@@ -1,5 +1,7 @@
 // The cubic walk over all points in Gray order: second slots, slots, value.
 // Contracts cite specs/Run (the search); what one place does is cubic_moves/specs/Step.
+#![tactic(auto)]
+
 ghost use Rattle.std.specs.Prelude.{◌≡◌, ◌<◌, ◌≤◌};
 ghost use Rattle.cubic_moves.specs.Moves.{Sized};
 ghost use Rattle.cubic_walk.specs.Run.{fresh, state_of, search_of};
@@ -12,7 +14,7 @@ mod steps;
 
 // Where a walk stands: the next place to examine, the value at the place before it, the slot of each unknown, and the second slot
 // of each pair as two words, at the pair's number among 20 unknowns.
-#[derive(Drop)]
+#[derive(Clone, Copy)]
 pub struct Walker {
     pub place: u64,
     pub value: Vector,

@@ -1,5 +1,7 @@
 // Differences and coefficients as numbers: 0, or that of the refusal, which leaves what was lent as it was.
 // Tables of either degree: the number of words tells which. Contracts cite table_calls/specs/Call.
+#![tactic(auto)]
+
 ghost use Rattle.std.specs.Prelude.{◌≡◌};
 ghost use Rattle.refusals.specs.Refusal.{code_of};
 ghost use Rattle.table_calls.specs.Call.{copy_call, differences_left, coefficients_left};

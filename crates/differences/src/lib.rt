@@ -1,5 +1,7 @@
 // The table of differences of a coefficient table, and back: unknown after unknown, by the crate turns.
 // Contracts cite tables/specs/Words and tables/specs/Answers.
+#![tactic(auto)]
+
 ghost use Rattle.std.specs.Prelude.{◌≡◌, ℕ, ◌*◌, ◌≤◌, length};
 ghost use Rattle.refusals.specs.Limits.{most_unknowns};
 ghost use Rattle.refusals.specs.Refusal.{code_of};

@@ -1,5 +1,7 @@
 // The calls of a search after the first text, each text written before the next call; the bytes taken are counted. What is left to write is
 // said in planner's specs/Output. That `send` is called for each text, and with which descriptor, is read and tested. Contracts cite specs/Driving.
+#![tactic(auto)]
+
 ghost use Rattle.std.specs.Prelude.{◌≡◌, true, ◌+◌, ◌*◌, ◌≤◌, length};
 ghost use Rattle.listing.specs.Listing.{longest_layout, longest_totals};
 ghost use Rattle.planner.specs.Output.{Standing};

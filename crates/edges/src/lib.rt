@@ -1,5 +1,7 @@
 // An edge that fits, taken into a graph once: flags tell a repeat, either way round, and a new one needs room.
 // Contracts cite graphs/specs/Reading (what is refused) and graphs/specs/Scans (what the graph and the flags stand for).
+#![tactic(auto)]
+
 ghost use Rattle.std.specs.Prelude.{◌≡◌, [], ◌∷◌, ◌++◌, ◌+◌, ◌≤◌, ◌<◌, eqb, get_or, set};
 ghost use Rattle.graphs.specs.Reading.{vertices_most, lines_most, edges_most, full_fault, carry};
 ghost use Rattle.graphs.specs.Scans.{state_of, edges_of, cell_of, Kept, Fits, pair_state};

@@ -1,4 +1,6 @@
 // How a program ends: what is told once its output was taken and closed. Contracts cite specs/Endings.
+#![tactic(auto)]
+
 ghost use Rattle.std.specs.Prelude.{length};
 ghost use Rattle.endings.specs.Endings.{Concludes, Delivers};
 

@@ -1,4 +1,6 @@
 // The coefficient words of a graph: one equation for each edge. Contracts cite specs/Equations; specs/Parts says what the steps do.
+#![tactic(auto)]
+
 ghost use Rattle.std.specs.Prelude.{◌≡◌, ◌+◌, ◌*◌, ◌<◌, ◌≤◌, min, max, length, replicate};
 ghost use Rattle.tables.specs.Monomials.{count_of};
 ghost use Rattle.tables.specs.Words.{words_of};

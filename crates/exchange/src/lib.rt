@@ -1,6 +1,8 @@
 // A graph file written back tidied: read, counted, and written where the output has room for the whole text.
 // Contracts cite graphs/specs/Reading (what a text means), tidying/specs/Tidy (what is written), tallies/specs/Tallies (what is counted)
 // and specs/Answers. For callers that are told by words it is the crate tidy_calls.
+#![tactic(auto)]
+
 ghost use Rattle.std.specs.Prelude.{◌≡◌, ◌≤◌, ltb, length};
 ghost use Rattle.refusals.specs.Choice.{pick};
 ghost use Rattle.graphs.specs.Reading.{text_most};

@@ -1,5 +1,7 @@
 // A table of differences with what is told beside it: its degree, and the check of a table of either degree.
 // Contracts cite specs/Given.
+#![tactic(auto)]
+
 ghost use Rattle.std.specs.Prelude.{◌≡◌};
 ghost use Rattle.refusals.specs.declared.Verdict.TheVariants.{Done};
 ghost use Rattle.refusals.specs.Refusal.{code_of};
@@ -8,7 +10,7 @@ ghost use Rattle.given.specs.Given.{table_with, table_verdict, degree_told};
 use refusals::{MOST_UNKNOWNS, Verdict};
 
 // The degree of the system behind a table, told like its sizes.
-#[derive(Drop)]
+#[derive(Clone, Copy)]
 pub enum Degree {
     Two,
     Three,

@@ -1,5 +1,7 @@
 // Graph files: what a text means, and why a line or a whole text is refused. Nothing lent is written here.
 // Contracts cite specs/Reading (what a text means) and specs/Scans (what the structs stand for).
+#![tactic(auto)]
+
 ghost use Rattle.std.specs.Prelude.{◌≡◌, ◌+◌, ◌≤◌};
 ghost use Rattle.graphs.specs.Reading.{text_most, problem_fault, edge_fault, end_of, number_at};
 ghost use Rattle.graphs.specs.Scans.{state_of, edges_of, found_of};
@@ -16,7 +18,7 @@ const VERTICES_MOST: u64 = 20;
 const LINES_MOST: u64 = 4096;
 
 // What the lines so far say: whether there was a p line, its numbers, how many e lines there were, and both ends of each different edge.
-#[derive(Drop)]
+#[derive(Clone, Copy)]
 pub struct Graph {
     pub known: bool,
     pub vertices: u64,

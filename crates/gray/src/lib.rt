@@ -1,5 +1,7 @@
 // Places and points of the walk in Gray order.
 // Contracts cite specs/Numbers (digits and the map) and Answers (refusals).
+#![tactic(auto)]
+
 use refusals::Refusal;
 
 mod digits;
@@ -9,11 +11,11 @@ pub use digits::digits_at;
 pub use map::{convertible, place_at, place_of, point_at, point_of};
 
 // A position in the walk, counted from 0.
-#[derive(Drop)]
+#[derive(Clone, Copy)]
 pub struct Place(pub u64);
 
 // A point, numbered x0 + 3 x1 + 9 x2 + ..
-#[derive(Drop)]
+#[derive(Clone, Copy)]
 pub struct Point(pub u64);
 
 // A point, or why there is none.

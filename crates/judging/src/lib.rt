@@ -1,4 +1,6 @@
 // What a call is refused for: the table, the record in two parts, the budget and the list's length. Contracts cite outcomes/specs/Search.
+#![tactic(auto)]
+
 ghost use Rattle.std.specs.Prelude.{◌≡◌, [], ◌≤◌, ◌^◌, length};
 ghost use Rattle.refusals.specs.Limits.{second_words};
 ghost use Rattle.given.specs.declared.Degree.TheVariants as degree;

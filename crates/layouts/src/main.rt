@@ -1,6 +1,8 @@
 // Reads a graph file from standard input and has all its layouts sent to standard output. Once all of it was taken, it tells on
 // descriptor 3 how the run ended: sending's specs/Ending says when something is told, and what; that this is sent, and to which
 // descriptor, is read and tested. Standard error has words where a read or a write fails.
+#![tactic(auto)]
+
 use libc::{STDERR_FILENO, STDIN_FILENO};
 use refusals::{MOST_WORDS, PIECE_ENTRIES};
 use sending::TEXT_BYTES;

@@ -1,4 +1,6 @@
 // Answers of the operations into lent words: the result and 0, or the number of the refusal. Contracts cite specs/Lent.
+#![tactic(auto)]
+
 ghost use Rattle.std.specs.Prelude.{◌≡◌, length};
 ghost use Rattle.refusals.specs.declared.Verdict.TheVariants.{Done};
 ghost use Rattle.gray.specs.Answers.{point_told, place_told};

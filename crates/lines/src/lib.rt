@@ -1,4 +1,6 @@
 // Words, numbers and comments in the lines of a text, for any kind of file. A line is its bytes without the line feed. Contracts cite specs/Lines.
+#![tactic(auto)]
+
 ghost use Rattle.std.specs.Prelude.{◌≡◌, ◌≤◌, length};
 ghost use Rattle.lines.specs.Lines.{first_of, decimal_from, is_padded, number_in, both, pair_in, starts, is_comment};
 

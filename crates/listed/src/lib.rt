@@ -1,5 +1,7 @@
 // The unknowns of a point that are not 0, listed once, and sums over their products alone.
 // Contracts cite specs/Lists (what is listed).
+#![tactic(auto)]
+
 ghost use Rattle.std.specs.Prelude.{◌≡◌, ℕ, ◌+◌, ◌-◌, ◌*◌, ◌/◌, ◌%◌, ◌^◌, ◌<◌, ◌≤◌, length, get_or};
 ghost use Rattle.refusals.specs.Limits.{most_unknowns};
 ghost use Rattle.residues.specs.Sums.{sum};

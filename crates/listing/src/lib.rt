@@ -1,4 +1,6 @@
 // The lines of a listing, put into a text that is lent: each function answers where the next byte goes. Contracts cite specs/Listing.
+#![tactic(auto)]
+
 ghost use Rattle.std.specs.Prelude.{◌≡◌, ◌+◌, ◌*◌, ◌≤◌, ◌<◌, length};
 ghost use Rattle.texts.specs.Text.{Put};
 ghost use Rattle.listing.specs.Listing.{digits_of, layout_line, layout_lines, head_line, totals_line, longest_layout, longest_head, longest_totals};

@@ -2,6 +2,8 @@
 // Table, record, budget and list are judged once; each piece goes on from the record of the one before, and together they are one call.
 // The record is in two parts, so that a record of degree 2 is moved without its second slots.
 // Contracts cite specs/Listed (what the whole gives) and specs/Pieces (what a piece does).
+#![tactic(auto)]
+
 ghost use Rattle.std.specs.Prelude.{◌≡◌, true, ◌-◌, ◌*◌, ◌/◌, ◌<◌, ◌≤◌, min, length};
 ghost use Rattle.codec.specs.Codec.{bytes_from, pasted};
 ghost use Rattle.given.specs.Given.{table_with, Checked};

@@ -1,5 +1,7 @@
 // One place of the walk over all points in Gray order: one addition, one move, and what is noted of a value.
 // Contracts cite specs/Step (what one place does) and specs/Moves (what the code of a move holds).
+#![tactic(auto)]
+
 ghost use Rattle.std.specs.Prelude.{◌≡◌, ◌+◌, ◌-◌, ◌*◌, ◌^◌, ◌<◌, ◌≤◌, length, get_or};
 ghost use Rattle.trits.specs.Trit.{none};
 ghost use Rattle.trits.specs.Words.{add_of, is_zero};

@@ -1,5 +1,7 @@
 // The conversions of places, points and balanced numbers, each into one lent word: 0, or the number of the refusal, which leaves what
 // was lent as it was. Contracts cite specs/Call.
+#![tactic(auto)]
+
 ghost use Rattle.std.specs.Prelude.{◌≡◌, length};
 ghost use Rattle.refusals.specs.Refusal.{code_of};
 ghost use Rattle.number_calls.specs.Call.{convert_call, point_after, place_after, balanced_after, unbalanced_call, unbalanced_after};

@@ -1,5 +1,7 @@
 // The walk record, and opening at any place.
 // Contracts cite specs/Opened: the record at a place.
+#![tactic(auto)]
+
 ghost use Rattle.std.specs.Prelude.{◌≡◌};
 ghost use Rattle.opening.specs.Opened.{open_verdict, open_of, refused_open, no_record};
 ghost use Rattle.refusals.specs.Refusal.{code_of};
@@ -16,7 +18,7 @@ pub use parts::{first_two, record_at};
 
 // The walk of one table, between two calls. Slots from n to 19 are zero, and so are the second slots that the system does not have:
 // second slot (b, c), b not above c, is two words, high then low, at the number of the pair among those of 20 unknowns.
-#[derive(Drop)]
+#[derive(Clone, Copy)]
 pub struct Record {
     pub n: u64,
     pub m: u64,
@@ -27,7 +29,7 @@ pub struct Record {
 }
 
 // A record without its second slots: they stand apart, or where the table is of degree 2 nowhere, all of them being zero.
-#[derive(Drop)]
+#[derive(Clone, Copy)]
 pub struct First {
     pub n: u64,
     pub m: u64,

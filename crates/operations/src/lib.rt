@@ -1,5 +1,7 @@
 // The operations on tables of either degree: the degree is told like n and m, and each operation hands on to its own.
 // Contracts cite specs/Operations.
+#![tactic(auto)]
+
 ghost use Rattle.std.specs.Prelude.{◌≡◌};
 ghost use Rattle.refusals.specs.Refusal.{code_of};
 ghost use Rattle.operations.specs.Operations.{packing, packed_into, copying, differences_into, coefficients_into, evaluated_in, TellsIn};

@@ -1,5 +1,7 @@
 // What a call of the search gives: its answer, and the record moved on, whole or in two parts.
 // Contracts cite specs/Search: what a call gives, legal or refused; and specs/First: of a record in two parts.
+#![tactic(auto)]
+
 ghost use Rattle.std.specs.Prelude.{◌≡◌};
 ghost use Rattle.walks.specs.Calls.{stop_from};
 ghost use Rattle.outcomes.specs.First.{n_for};
@@ -11,7 +13,7 @@ use refusals::Refusal;
 use walks::{Report, Stop};
 
 // What a call says: how it stopped and what it did, or why it was refused.
-#[derive(Drop)]
+#[derive(Clone, Copy)]
 pub enum Answer {
     Ran(Report),
     Refused(Refusal),

@@ -1,5 +1,7 @@
 // The whole search of one graph file, a text at a time: what `begin` and each `next` leave in the text, joined, is the program's output.
 // Contracts cite specs/Output (the output of an input, and what is left of it between two calls) and specs/Parts.
+#![tactic(auto)]
+
 ghost use Rattle.std.specs.Prelude.{◌≡◌, true, ◌+◌, ◌*◌, ◌≤◌, length};
 ghost use Rattle.refusals.specs.Limits.{most_words};
 ghost use Rattle.texts.specs.Text.{longest_refusal};

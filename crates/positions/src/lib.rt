@@ -1,5 +1,7 @@
 // Positions of a number in base 3: its lowest nonzero digit, then those of the number less 3 to that position.
 // Contracts cite specs/Positions and Parts.
+#![tactic(auto)]
+
 ghost use Rattle.std.specs.Prelude.{◌≡◌, ◌<◌, ◌≤◌, ◌^◌};
 ghost use Rattle.positions.specs.Positions.{lowest_of, positions};
 ghost use Rattle.positions.specs.Parts.{Splits, position_at};

@@ -1,4 +1,6 @@
 // Runs crate positions, which no C function reaches, against the rules of document 01, computed plainly digit by digit, and counts what differs.
+#![tactic(auto)]
+
 mod plain;
 
 use libc::STDOUT_FILENO;

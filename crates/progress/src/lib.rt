@@ -1,5 +1,7 @@
 // The line of progress: on standard error where that is a terminal, written over itself, and gone before anything else is written
 // on the same terminal. It is shown beside a terminal or a file as standard output alone: who reads a pipe may write on the terminal too.
+#![tactic(auto)]
+
 use libc::{SEEK_CUR, STDERR_FILENO, STDOUT_FILENO};
 use planner::Session;
 

@@ -1,4 +1,6 @@
 // The reader of graph files for callers that are told by words. Contracts cite graphs/specs/Reading and reader/specs/Answers.
+#![tactic(auto)]
+
 ghost use Rattle.std.specs.Prelude.{◌≡◌, length};
 ghost use Rattle.reader.specs.Answers.{words_after, call_of, call_code, told_after};
 

@@ -1,5 +1,7 @@
 // The reader of graph files: a text becomes a coefficient table with one equation for each edge.
 // Contracts cite graphs/specs/Reading (what a text means), equations/specs/Equations and specs/Answers. For callers that are told by words it is the crate read_calls.
+#![tactic(auto)]
+
 ghost use Rattle.std.specs.Prelude.{◌≡◌, ◌≤◌, length};
 ghost use Rattle.refusals.specs.Refusal.{number_of};
 ghost use Rattle.graphs.specs.Reading.{text_most, outcome_of};

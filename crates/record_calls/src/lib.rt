@@ -1,5 +1,7 @@
 // The record of a table of either degree into lent words: 0, or the number of the refusal, which leaves what was lent as it was.
 // Contracts cite specs/Call.
+#![tactic(auto)]
+
 ghost use Rattle.std.specs.Prelude.{◌≡◌};
 ghost use Rattle.refusals.specs.Refusal.{code_of};
 ghost use Rattle.given.specs.Given.{table_told};

@@ -1,4 +1,6 @@
 // Document 01's limits, and why an operation refuses: one case for each of its numbers.
+#![tactic(auto)]
+
 ghost use Rattle.std.specs.Prelude.{◌≡◌, ◌↔◌, ◌<◌, ◌^◌, true};
 ghost use Rattle.refusals.specs.Limits.{Unknowns, Within};
 ghost use Rattle.refusals.specs.Refusal.{number_of, code_of};
@@ -56,7 +58,7 @@ pub fn sizes_fit(n: u64, m: u64) -> bool
     m <= MOST_EQUATIONS
 }
 
-#[derive(Drop)]
+#[derive(Clone, Copy)]
 pub enum Refusal {
     // n is not 1 to 20, or m is not 1 to 64.
     Size,
@@ -114,7 +116,7 @@ pub fn number(r: Refusal) -> u64
 }
 
 // What an operation says that writes its result into what it was lent.
-#[derive(Drop)]
+#[derive(Clone, Copy)]
 pub enum Verdict {
     Done,
     Refused(Refusal),

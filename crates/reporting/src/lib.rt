@@ -1,4 +1,6 @@
 // The walk of a call that nothing refuses, reported. Contracts cite outcomes/specs/Search and specs/Reported, for the code alone.
+#![tactic(auto)]
+
 ghost use Rattle.std.specs.Prelude.{◌≡◌, true, ◌≤◌, length};
 ghost use Rattle.walks.specs.Calls.{list_after};
 ghost use Rattle.given.specs.Given.{table_with, Checked};

@@ -1,4 +1,6 @@
 // Remainders of signed coefficients.
+#![tactic(auto)]
+
 ghost use Rattle.residues.specs.Residue.{Reduced};
 
 // The remainder 0, 1 or 2 of a signed coefficient: -1 gives 2, -3 gives 0, 127 and -128 give 1.

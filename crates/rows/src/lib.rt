@@ -1,4 +1,6 @@
 // Signed rows into words: equation e of the system becomes bit e of every entry.
+#![tactic(auto)]
+
 ghost use Rattle.std.specs.Prelude.{◌≡◌, List, ℕ, ◌+◌, ◌*◌, ◌^◌, ◌<◌, ◌≤◌, length};
 ghost use Rattle.refusals.specs.Limits.{most_equations};
 ghost use Rattle.refusals.specs.Refusal.{code_of, after};

@@ -1,5 +1,7 @@
 // A text read line by line into a graph, or the first refusal and its line. Nothing lent is written here.
 // Contracts cite lines/specs/Lines (what stands in a line), shapes/specs/Shapes (what a line says), graphs/specs/Reading and graphs/specs/Scans.
+#![tactic(auto)]
+
 ghost use Rattle.std.specs.Prelude.{◌≡◌, ◌≤◌, length};
 ghost use Rattle.lines.specs.Lines.{lines_of};
 ghost use Rattle.shapes.specs.Shapes.{shape_of};

@@ -1,4 +1,6 @@
 // The search: one call moves a walk record on, by value or lent. Contracts cite outcomes/specs/Search: what a call gives, legal or refused.
+#![tactic(auto)]
+
 mod calls;
 mod lent;
 mod parts;

@@ -1,4 +1,6 @@
 // The search over bytes: lengths are judged, then table and record are read, and record and answer written. Contracts cite specs/Call.
+#![tactic(auto)]
+
 ghost use Rattle.std.specs.Prelude.{◌≡◌, ◌/◌, ◌≤◌, length};
 ghost use Rattle.refusals.specs.declared.Verdict.TheVariants.{Done};
 ghost use Rattle.refusals.specs.Limits.{most_unknowns, record_length};

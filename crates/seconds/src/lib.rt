@@ -1,6 +1,8 @@
 // The second slots of a cubic record at any place, from its table of differences: the entry of a pair, and those of each product of three with it as
 // often as the places so far began with these three. No walking, no coefficients.
 // Contracts cite specs/Seconds (what second slots are); specs/Parts says what the steps do.
+#![tactic(auto)]
+
 ghost use Rattle.std.specs.Prelude.{◌≡◌, [], ◌∷◌, ℕ, ◌+◌, ◌-◌, ◌*◌, ◌/◌, ◌^◌, ◌<◌, ◌≤◌, length};
 ghost use Rattle.refusals.specs.Limits.{most_unknowns};
 ghost use Rattle.trits.specs.Trit.{Holds};

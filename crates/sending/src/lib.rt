@@ -1,6 +1,8 @@
 // The whole output of a graph file sent to standard output, a text at a time: what is sent is said in planner's specs/Output. The bytes
 // taken are counted; specs/Ending says when something is to be told at the end, and what. That `send` is called for each text, and
 // with which descriptor, is read and tested, and that the bytes arrive is the system's part.
+#![tactic(auto)]
+
 ghost use Rattle.std.specs.Prelude.{◌≡◌, true, ◌+◌, ◌*◌, ◌≤◌, length};
 ghost use Rattle.refusals.specs.Limits.{most_words, piece_entries};
 ghost use Rattle.listing.specs.Listing.{longest_layout, longest_totals};

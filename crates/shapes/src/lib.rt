@@ -1,4 +1,6 @@
 // The shapes of a graph file's lines. Contracts cite specs/Shapes.
+#![tactic(auto)]
+
 ghost use Rattle.std.specs.Prelude.{◌≡◌};
 ghost use Rattle.shapes.specs.Shapes.{as_problem, as_edge, shape_of};
 

@@ -1,4 +1,6 @@
 // How often the entries of b, b and of b, b + 1 of a cubic table have come to the value so far, modulo 3.
+#![tactic(auto)]
+
 ghost use Rattle.std.specs.Prelude.{suc, ◌+◌, ◌-◌, ◌*◌, ◌/◌, ◌%◌};
 ghost use Rattle.residues.proofs.ModLaw.{Cong};
 ghost use Rattle.held.specs.Thirds.{low_sum, next_sum, same_sum, lows_sum};

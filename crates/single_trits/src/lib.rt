@@ -1,4 +1,6 @@
 // One trit of a vector, read and put. Contracts cite trits/specs/Trit and trits/specs/Words.
+#![tactic(auto)]
+
 ghost use Rattle.std.specs.Prelude.{◌≡◌};
 ghost use Rattle.trits.specs.Trit.{trit};
 ghost use Rattle.trits.specs.Words.{Put};

@@ -1,5 +1,7 @@
 // Whole buffers from and to a descriptor, over the C library's read and write: a call that a signal interrupted, or that would
 // have to wait on a descriptor that does not, is tried again. No contract can say which bytes came or went; it speaks of the counts.
+#![tactic(auto)]
+
 ghost use Rattle.std.specs.Prelude.{◌+◌, ◌≤◌, ◌<◌, length};
 ghost use Rattle.streams.specs.Counts.{bytes_of};
 

@@ -1,5 +1,7 @@
 // Rows and tables as numbers: 0, or that of the refusal, which leaves what was lent as it was. The other operations on tables are the crates
 // difference_calls and value_calls. Tables of either degree: the number of words tells which. Contracts cite specs/Call.
+#![tactic(auto)]
+
 ghost use Rattle.std.specs.Prelude.{◌≡◌};
 ghost use Rattle.refusals.specs.Refusal.{code_of};
 ghost use Rattle.table_calls.specs.Call.{check_call, pack_call, pack_left};

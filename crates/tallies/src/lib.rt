@@ -1,4 +1,6 @@
 // What is counted in the lines of a graph file: comments, e lines, and those with the larger vertex first. Contracts cite specs/Tallies.
+#![tactic(auto)]
+
 ghost use Rattle.std.specs.Prelude.{◌≡◌, ◌+◌, ◌≤◌, ltb, length};
 ghost use Rattle.graphs.specs.Reading.{text_most};
 ghost use Rattle.graphs.specs.Scans.{flag};

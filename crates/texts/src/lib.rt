@@ -1,4 +1,6 @@
 // Bytes and numbers put into a text that is lent, for any program: each function answers where the next byte goes.
+#![tactic(auto)]
+
 ghost use Rattle.std.specs.Prelude.{◌≡◌, ◌+◌, ◌≤◌, ◌<◌, length, drop};
 ghost use Rattle.texts.specs.Text.{Put, decimal_of, pair_line, refusal_line, longest_refusal};
 

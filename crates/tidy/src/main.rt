@@ -1,6 +1,8 @@
 // Reads a graph file from standard input and writes it tidied to standard output: specs/Output says what it writes. Once all of it was
 // taken, it tells on descriptor 3 how the run ended. Standard error has the counts in a sentence, and words where a read or a write
 // fails. Which descriptors are used, and for what, is read and tested.
+#![tactic(auto)]
+
 ghost use Rattle.std.specs.Prelude.{◌≡◌, length};
 ghost use Rattle.reread.specs.Reread.{tidy_most};
 ghost use Rattle.tidy.specs.Output.{Runs};

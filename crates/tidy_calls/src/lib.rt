@@ -1,4 +1,6 @@
 // A graph file written back tidied, for callers that are told by words. Contracts cite exchange/specs/Answers.
+#![tactic(auto)]
+
 ghost use Rattle.std.specs.Prelude.{◌≡◌, length};
 ghost use Rattle.exchange.specs.Answers.{answer_of, out_after, call_of, code_of, told_after};
 

@@ -1,5 +1,7 @@
 // A graph file written back tidied: the p line, then each edge once, smaller vertex first, by its first and then its second vertex.
 // Contracts cite specs/Tidy.
+#![tactic(auto)]
+
 ghost use Rattle.std.specs.Prelude.{◌≡◌, ◌+◌, ◌*◌, ◌≤◌, ◌<◌, length};
 ghost use Rattle.graphs.specs.Scans.{cells};
 ghost use Rattle.texts.specs.Text.{Put};

@@ -1,8 +1,10 @@
 // Vectors of up to 64 trits in two words: equation e sits at bit e of both.
 // Contracts cite specs/Words (what each operation gives) over specs/Trit (what a trit and a legal vector are). Single trits are the crate single_trits.
+#![tactic(auto)]
+
 ghost use Rattle.trits.specs.Words.{Added, Negated, Multiplied, Scaled, Tested, Judged};
 
-#[derive(Drop)]
+#[derive(Clone, Copy)]
 pub struct Vector {
     pub high: u64,
     pub low: u64,

@@ -1,5 +1,7 @@
 // What no C function reaches of the crate trits, against plain arithmetic on single trits: products, multiples by any number, trits read and put
 // at any place, tests of any words. How often they were compared, how often they differ.
+#![tactic(auto)]
+
 ghost use Rattle.std.specs.Prelude.{◌<◌};
 
 use libc::STDOUT_FILENO;
@@ -11,7 +13,7 @@ struct Count {
     differ: u64,
 }
 
-#[derive(Drop)]
+#[derive(Clone, Copy)]
 enum Op {
     Product,
     Multiple,

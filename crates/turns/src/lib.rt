@@ -1,5 +1,7 @@
 // One unknown's entries of a coefficient table turned into those of its differences, or back. Modulo 3 both directions are the same formulas:
 // what differs is only in which of the two tables the coefficients stand. Contracts cite specs/Parts, for the code alone.
+#![tactic(auto)]
+
 ghost use Rattle.std.specs.Prelude.{◌≡◌, List, ℕ, ◌+◌, ◌-◌, ◌*◌, ◌<◌, ◌≤◌, length};
 ghost use Rattle.refusals.specs.Limits.{most_unknowns};
 ghost use Rattle.trits.specs.Trit.{Legal, of_trits};

@@ -1,5 +1,7 @@
 // The value at a point as numbers: 0 and two words, or that of the refusal, which leaves what was lent as it was.
 // Tables of either degree: the number of words tells which. Contracts cite table_calls/specs/Call.
+#![tactic(auto)]
+
 ghost use Rattle.std.specs.Prelude.{◌≡◌};
 ghost use Rattle.refusals.specs.Refusal.{code_of};
 ghost use Rattle.table_calls.specs.Call.{evaluate_call, evaluate_after};

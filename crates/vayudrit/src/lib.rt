@@ -1,6 +1,8 @@
 // The library as C sees it: every operation on numbers and slices, with document 01's refusal numbers. A slice is a pointer and a count.
 // Each returns 0 or the number of the refusal, which leaves what was lent as it was. Exports only: an operation stands in the crate
 // of its notion, under the same contract.
+#![tactic(auto)]
+
 ghost use Rattle.std.specs.Prelude.{◌≡◌, length};
 ghost use Rattle.refusals.specs.Refusal.{code_of};
 ghost use Rattle.reader.specs.Answers.{words_after, call_of, call_code, told_after};

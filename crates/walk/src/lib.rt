@@ -1,5 +1,7 @@
 // The walk over all points in Gray order: the fast core of the search.
 // Contracts cite specs/Run (the search); what one place does is moves/specs/Step.
+#![tactic(auto)]
+
 ghost use Rattle.std.specs.Prelude.{◌≡◌, ◌-◌, ◌%◌, ◌≤◌, min};
 ghost use Rattle.moves.specs.Moves.{Sized};
 ghost use Rattle.walk.specs.Run.{fresh, state_of, search_of};
@@ -13,7 +15,7 @@ pub use leaps::{ready, room};
 pub use steps::going;
 
 // Where a walk stands: the next place to examine, the value at the place before it, and the slot of each unknown.
-#[derive(Drop)]
+#[derive(Clone, Copy)]
 pub struct Walker {
     pub place: u64,
     pub value: Vector,

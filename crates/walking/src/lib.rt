@@ -1,4 +1,6 @@
 // The walk of a call that nothing refuses, by the degree of its table. Contracts cite specs/Leaves, for the code alone.
+#![tactic(auto)]
+
 ghost use Rattle.std.specs.Prelude.{◌≡◌, true, List, [], ℕ, ◌^◌, length};
 ghost use Rattle.refusals.specs.Limits.{second_words};
 ghost use Rattle.given.specs.declared.Degree.TheVariants as degree;

@@ -1,8 +1,10 @@
 // Walks in Gray order over any state, and calls on them: what a call answers, and the laws of runs of calls.
+#![tactic(auto)]
+
 use gray::Place;
 
 // Why a call stopped; with Full and Spent the place next to be examined.
-#[derive(Drop)]
+#[derive(Clone, Copy)]
 pub enum Stop {
     Ended,
     Full(Place),
@@ -10,7 +12,7 @@ pub enum Stop {
 }
 
 // What a call did.
-#[derive(Drop)]
+#[derive(Clone, Copy)]
 pub struct Report {
     pub stop: Stop,
     pub points: u64,

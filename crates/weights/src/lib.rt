@@ -1,5 +1,7 @@
 // How often each entry of a row of a cubic table was added so far, modulo 3, and the row with these weights: what slots and value are summed from.
 // Contracts cite specs/Parts (what the steps do), for the code alone: what slots are is said in cubic_slots/specs/Slots, what the value is in cubics/specs.
+#![tactic(auto)]
+
 ghost use Rattle.std.specs.Prelude.{◌≡◌, true, false, List, ℕ, ◌+◌, ◌-◌, ◌*◌, ◌/◌, ◌%◌, ◌^◌, ◌<◌, ◌≤◌, length, get_or};
 ghost use Rattle.refusals.specs.Limits.{most_unknowns};
 ghost use Rattle.residues.specs.Sums.{sum};

@@ -1,4 +1,6 @@
 // Walk records as words and as bytes, whole or in their two parts, and what bytes stand for. Contracts cite specs/Wire. Writing is the crate wire_out.
+#![tactic(auto)]
+
 ghost use Rattle.std.specs.Prelude.{◌≡◌, ◌≤◌, length, take};
 ghost use Rattle.refusals.specs.Limits as limits;
 ghost use Rattle.opening.specs.First.{all_zero, first_of};

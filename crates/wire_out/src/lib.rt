@@ -1,4 +1,6 @@
 // Walk records written as words, and these as bytes, whole or in their two parts. Contracts cite wire/specs/Wire.
+#![tactic(auto)]
+
 ghost use Rattle.std.specs.Prelude.{◌≡◌, ◌≤◌, length};
 ghost use Rattle.refusals.specs.Limits as limits;
 ghost use Rattle.wire.specs.Wire.{first_words, record_words, parts_in};

@@ -1,0 +1,11 @@
+-- `checks::check` meets its contract.
+use mathlib.Core.Path.{refl, ap, ◌∙◌}
+use Rattle.refusals.specs.Refusal.{code_of}
+use Rattle.tables.proofs.AnswerLaw.{copy_self}
+use Rattle.checks.proofs.check.Goals as goal
+
+pub returns : goal.returns
+returns c =
+    let a = c.args in
+    let e = c.check_copy.ensures a.table.now refl ∙ copy_self a.n a.m a.table.now in
+    (e, ap code_of e)

@@ -1,0 +1,33 @@
+-- `cubic_coefficients::coefficients` meets its contract: it writes where nothing is refused.
+use mathlib.Core.Path.{◌≡◌, refl, sym, ap, ◌∙◌}
+use Rattle.refusals.specs.declared.Verdict.{Verdict}
+use Rattle.refusals.specs.declared.Verdict.TheVariants.{Done}
+use Rattle.refusals.specs.Refusal.{code_of, after}
+use Rattle.cubic_tables.specs.Words.{cubic_coefficients}
+use Rattle.cubic_tables.specs.Answers.{cubic_copy}
+use Rattle.tables.proofs.AnswerLaw.{entries_ready}
+use Rattle.cubic_tables.specs.Order.{cubic_count}
+use Rattle.cubic_coefficients.proofs.coefficients.Goals as goal
+
+pub coefficients_into-requires : goal.coefficients_into-requires
+coefficients_into-requires c =
+    let a = c.args in
+    let k = c.check_copy-judged in
+    let r = entries_ready (cubic_count a.n) a.n a.m a.table.now a.coefficients.now (sym (k.ensures a.coefficients.now refl) ∙ c.in-Done.is) in
+    (r.least, r.most, r.table.size, r.room)
+
+pub returns-in-Done : goal.returns-in-Done
+returns-in-Done c =
+    let a = c.args in
+    let k = c.check_copy-judged in
+    let e = k.ensures a.coefficients.now refl in
+    let d : cubic_copy a.n a.m a.table.now a.coefficients.now ≡ Done = sym e ∙ c.in-Done.is in
+    let r = entries_ready (cubic_count a.n) a.n a.m a.table.now a.coefficients.now d in
+    (e, (c.coefficients_into.ensures a.m r.table ∙ sym (ap (λ (v : Verdict). after v a.coefficients.now (cubic_coefficients a.n a.m a.table.now)) d), ap code_of e))
+
+pub returns-in_default : goal.returns-in_default
+returns-in_default c =
+    let a = c.args in
+    let k = c.check_copy-judged in
+    let e = k.ensures a.coefficients.now refl in
+    (e, (sym (ap (λ (v : Verdict). after v a.coefficients.now (cubic_coefficients a.n a.m a.table.now)) (sym e ∙ c.in_default.is)), ap code_of e))

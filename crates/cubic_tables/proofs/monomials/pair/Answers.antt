@@ -1,0 +1,35 @@
+-- `cubic_tables::monomials::pair` meets its contract.
+use mathlib.Core.Path.{refl}
+use Prim.Native.Nat.{◌+◌, ◌*◌, ◌/◌, ◌≤◌, ◌<◌}
+use native.Mathlib.Omega.{arith}
+use Rattle.tables.proofs.IndexLaw.{product_le, half_le}
+use Rattle.cubic_tables.specs.Order.{pair_of}
+use Rattle.cubic_tables.proofs.PairLaw.{pair_lt}
+use Rattle.cubic_tables.proofs.monomials.pair.Goals as goal
+
+-- the code's numbers are small
+small : (c : tie.Start) → (c.args.b * c.args.n ≤ 400) × (c.args.b * (c.args.b + 1) ≤ 420) × (c.args.b * (c.args.b + 1) / 2 ≤ c.args.b * c.args.n)
+small c =
+    let n = c.args.n in
+    let b = c.args.b in
+    let p : n ≤ 20 = c.requires.0 in
+    let q : b < n = omega (arith, c.requires.1, c.requires.2) in
+    (product_le b n (omega arith) p, omega (arith, product_le b b (omega arith) (omega arith)), half_le n b q)
+
+pub overflow_mul-result : goal.overflow_mul-result
+overflow_mul-result c = omega (arith, small c)
+
+pub overflow_mul-result-2 : goal.overflow_mul-result-2
+overflow_mul-result-2 c = omega (arith, small c)
+
+pub overflow_sub-result : goal.overflow_sub-result
+overflow_sub-result c = omega (arith, small c)
+
+pub overflow_add-result-2 : goal.overflow_add-result-2
+overflow_add-result-2 c = omega (arith, small c, c.requires)
+
+pub returns : goal.returns
+unfolding pair_of
+returns c =
+    let l = pair_lt c.args.n c.args.b c.args.c c.requires.0 c.requires.1 c.requires.2 in
+    (refl, l.0, l.1)

@@ -1,0 +1,54 @@
+-- `differences::coefficients_into` meets its contract. The invariant: the unknowns before i are done.
+use mathlib.Core.Path.{◌≡◌, sym, ap, ◌∙◌}
+use Prim.Native.Nat.{◌-◌}
+use native.Mathlib.Omega.{arith}
+use Rattle.tables.specs.Words.{coefficients_of}
+use Rattle.turns.specs.Parts.{before_of}
+use Rattle.tables.proofs.IndexLaw.{count_is}
+use Rattle.tables.proofs.RoundLaw.{coefficients_table}
+use Rattle.turns.proofs.TurnLaw.{before_legal, coefficients_first, coefficients_turned}
+use Rattle.turns.proofs.FillLaw.{filled_none, filled_all, before_filled}
+use Rattle.differences.proofs.coefficients_into.Goals as goal
+
+pub vector-requires : goal.vector-requires
+vector-requires c = omega (arith, c.requires, count_is c.args.n)
+
+pub put_entry-requires : goal.put_entry-requires
+put_entry-requires c = omega (arith, c.requires, count_is c.args.n)
+
+pub loop-i-init : goal.loop-i-init
+loop-i-init c =
+    let a = c.args in
+    let q = c.requires in
+    let p = c.put_entry in
+    let v = c.vector.ensures in
+    (omega arith, p.auto.0 ∙ q.2, λ m t. rw p.ensures (filled_none a.n (coefficients_of a.n m a.from.now) a.to.now c.vector.result (omega (arith, count_is a.n)) (v ∙ coefficients_first a.n m a.from.now t)))
+
+pub product_before-p-requires : goal.product_before-p-requires
+product_before-p-requires c = let q = c.requires in (q.0, c.loop-i-test.true, c.loop-i.invariant.1)
+
+pub turn-requires : goal.turn-requires
+turn-requires c = let q = c.requires in (q.0, c.loop-i-test.true, q.1, c.loop-i.invariant.1)
+
+pub loop-i-preserved : goal.loop-i-preserved
+loop-i-preserved c =
+    let a = c.args in
+    let l = c.loop-i in
+    let h = c.loop-i-test.true in (
+      omega arith,
+      c.turn.auto.1.0 ∙ l.invariant.1,
+      λ m t.
+          let g = coefficients_of a.n m a.from.now in
+          let b : c.product_before-p.result ≡ before_of a.n g l.i = c.product_before-p.ensures ∙ before_filled a.n l.i g l.to h (l.invariant.2 m t) in
+          c.turn.ensures m g t (rw b (before_legal a.n m g l.i (coefficients_table a.n m a.from.now) h)) (rw b (coefficients_turned a.n m a.from.now l.i h)) (l.invariant.2 m t),
+    )
+
+pub shape_of-to : goal.shape_of-to
+shape_of-to c = c.loop-i.invariant.1 ∙ sym c.requires.2
+
+pub returns : goal.returns
+returns c =
+    let a = c.args in
+    let l = c.loop-i in
+    let e : l.i ≡ a.n = omega (arith, l.invariant.0, c.loop-i-test.false) in
+    λ m t. filled_all a.n (coefficients_of a.n m a.from.now) l.to (coefficients_table a.n m a.from.now).size l.invariant.1 (rw e at (l.invariant.2 m t))

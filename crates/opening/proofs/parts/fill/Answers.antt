@@ -1,0 +1,38 @@
+-- `opening::parts::fill` meets its contract: the parts of the record, from the coefficients that were written.
+use mathlib.Core.Path.{sym, ◌∙◌}
+use Prim.Native.Nat.{◌-◌}
+use native.Mathlib.Nat.{pow-zero}
+use native.Mathlib.Omega.{arith}
+use lib.ListN.{get_or}
+use Rattle.given.specs.Given.{quadratic}
+use Rattle.given.proofs.TableLaw.{within, table_of_lem, power_small}
+use Rattle.opening.proofs.OpenLaw.{opened_from}
+use Rattle.opening.proofs.parts.fill.Goals as goal
+
+pub digits_at-x-requires : goal.digits_at-x-requires
+digits_at-x-requires c = ((within (quadratic c.args.n c.args.m c.args.table.now) c.requires.0).most, omega arith, sym (pow-zero 3))
+
+pub coefficients_into-requires : goal.coefficients_into-requires
+coefficients_into-requires c =
+    ((within (quadratic c.args.n c.args.m c.args.table.now) c.requires.0).most, (table_of_lem c.args.n c.args.m c.args.table.now c.requires.0).size, c.requires.2)
+
+pub value_at-value-requires : goal.value_at-value-requires
+value_at-value-requires c =
+    ((within (quadratic c.args.n c.args.m c.args.table.now) c.requires.0).most, c.coefficients_into.auto.1.0 ∙ c.requires.2)
+
+pub slots-slots-requires : goal.slots-slots-requires
+slots-slots-requires c =
+    (
+      (within (quadratic c.args.n c.args.m c.args.table.now) c.requires.0).most,
+      omega (arith, c.latest_place-q.ensures, c.requires.1, power_small (quadratic c.args.n c.args.m c.args.table.now) c.requires.0),
+      c.coefficients_into.auto.1.0 ∙ c.requires.2,
+    )
+
+pub returns : goal.returns
+returns c =
+    let n = c.args.n in
+    let m = c.args.m in
+    let t = c.args.table.now in
+    opened_from n m t _ c.args.place _ _ _ (λ k. get_or c.digits_at-x.result k 0)
+    (c.coefficients_into.ensures m (table_of_lem n m t c.requires.0))
+    c.latest_place-q.ensures (λ k h. c.digits_at-x.ensures.0 k (omega arith) h) c.value_at-value.ensures c.slots-slots.ensures

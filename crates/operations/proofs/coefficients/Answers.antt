@@ -1,0 +1,22 @@
+-- `operations::coefficients` meets its contract: by the degree.
+use mathlib.Core.Path.{sym, ap, ◌∙◌}
+use Rattle.refusals.specs.Refusal.{code_of}
+use Rattle.given.specs.declared.Degree.{Degree}
+use Rattle.operations.specs.Operations.{copying, coefficients_into}
+use Rattle.operations.proofs.coefficients.Goals as goal
+
+pub returns-in-Two : goal.returns-in-Two
+returns-in-Two c =
+    let a = c.args in
+    let z = c.in-Two.is in
+    let x = c.coefficients.ensures in
+    let e = x.0 ∙ sym (ap (λ (d : Degree). copying d a.n a.m a.table.now a.coefficients.now) z) in
+    (e, (x.1.0 ∙ sym (ap (λ (d : Degree). coefficients_into d a.n a.m a.table.now a.coefficients.now) z), ap code_of e))
+
+pub returns-in-Three : goal.returns-in-Three
+returns-in-Three c =
+    let a = c.args in
+    let z = c.in-Three.is in
+    let x = c.coefficients-in-Three.ensures in
+    let e = x.0 ∙ sym (ap (λ (d : Degree). copying d a.n a.m a.table.now a.coefficients.now) z) in
+    (e, (x.1.0 ∙ sym (ap (λ (d : Degree). coefficients_into d a.n a.m a.table.now a.coefficients.now) z), ap code_of e))

@@ -1,0 +1,22 @@
+-- `operations::pack` meets its contract: by the degree.
+use mathlib.Core.Path.{sym, ap, ◌∙◌}
+use Rattle.refusals.specs.Refusal.{code_of}
+use Rattle.given.specs.declared.Degree.{Degree}
+use Rattle.operations.specs.Operations.{packing, packed_into}
+use Rattle.operations.proofs.pack.Goals as goal
+
+pub returns-in-Two : goal.returns-in-Two
+returns-in-Two c =
+    let a = c.args in
+    let z = c.in-Two.is in
+    let x = c.pack.ensures in
+    let e = x.0 ∙ sym (ap (λ (d : Degree). packing d a.n a.m a.rows.now a.table.now) z) in
+    (e, (x.1.0 ∙ sym (ap (λ (d : Degree). packed_into d a.n a.m a.rows.now a.table.now) z), ap code_of e))
+
+pub returns-in-Three : goal.returns-in-Three
+returns-in-Three c =
+    let a = c.args in
+    let z = c.in-Three.is in
+    let x = c.pack-in-Three.ensures in
+    let e = x.0 ∙ sym (ap (λ (d : Degree). packing d a.n a.m a.rows.now a.table.now) z) in
+    (e, (x.1.0 ∙ sym (ap (λ (d : Degree). packed_into d a.n a.m a.rows.now a.table.now) z), ap code_of e))

@@ -1,0 +1,12 @@
+-- `walk::leaps::closed` meets its contract.
+use mathlib.Core.Path.{◌≡◌}
+use native.Mathlib.Omega.{arith}
+use lib.ListN.{length}
+use Rattle.blocks.proofs.PartLaw.{together}
+use Rattle.walk.proofs.leaps.closed.Goals as goal
+
+pub returns : goal.returns
+returns c =
+    let a = c.args in
+    let k : length a.rest ≡ 20 = c.well_formed.1.0.1.0.1 in
+    λ l. together a.x a.rest l (omega arith)

@@ -1,0 +1,29 @@
+-- `walking::walked_three` meets its contract: the walk from the opened record.
+use mathlib.Core.Path.{ap, ◌∙◌}
+use mathlib.Core.List.{List}
+use Prim.Native.Nat.{ℕ}
+use native.Mathlib.Omega.{arith}
+use lib.ListN.{length, length-map}
+use Rattle.cubic_walk.specs.Run.{fresh, search_of}
+use Rattle.given.specs.declared.Degree.TheVariants.{Three}
+use Rattle.given.specs.Given.{cubic}
+use Rattle.given.proofs.TableLaw.{within, cubic_table_of}
+use Rattle.opening.specs.First.{whole_of}
+use Rattle.outcomes.proofs.FitsLaw.{fits_place}
+use Rattle.walking.proofs.ThreeLaw.{three_leaves}
+use Rattle.walking.proofs.walked_three.Goals as goal
+
+pub run-t-requires : goal.run-t-requires
+run-t-requires c =
+    let a = c.args in
+    let w = within (cubic a.n a.m a.table.now) c.requires.0 in
+    (record { some = w.least; small = w.most; table = (cubic_table_of a.n a.m a.table.now c.requires.0).size; end = omega (arith, c.requires.2) }, omega (arith, c.requires.2, fits_place (cubic a.n a.m a.table.now) (whole_of Three a.s a.seconds.now) c.requires.1))
+
+pub returns : goal.returns
+returns c =
+    let a = c.args in
+    let x = c.run-t in
+    three_leaves a.n a.m a.table.now c.requires.0 (whole_of Three a.s a.seconds.now) c.requires.1 a.budget a.end a.list.now _ x.result c.requires.2
+    (simp length-map at x.type-inv.1.1.0.1.1.1.1.0.1.0.1)
+    (x.ensures.0 ∙ ap (λ (y : List ℕ). search_of a.table.now a.n a.end a.budget (fresh (record { place = a.s.place.0; value = a.s.value; slots = a.s.slots; seconds = y }) a.list.now)) c.copy.ensures)
+    _ c.copy-2.ensures

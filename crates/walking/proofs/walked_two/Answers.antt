@@ -1,0 +1,27 @@
+-- `walking::walked_two` meets its contract: the walk from the opened record.
+use mathlib.Core.List.{[]}
+use native.Mathlib.Omega.{arith}
+use lib.ListN.{length, length-map}
+use Rattle.given.specs.declared.Degree.TheVariants.{Two}
+use Rattle.given.specs.Given.{quadratic}
+use Rattle.opening.specs.First.{whole_of}
+use Rattle.given.proofs.TableLaw.{within, table_of_lem}
+use Rattle.outcomes.proofs.FitsLaw.{fits_place}
+use Rattle.walking.proofs.TwoLaw.{two_leaves}
+use Rattle.walking.proofs.walked_two.Goals as goal
+
+pub run-t-requires : goal.run-t-requires
+run-t-requires c =
+    let a = c.args in
+    let n = a.n in
+    let m = a.m in
+    let t = a.table.now in
+    let w = within (quadratic n m t) c.requires.0 in
+    (record { some = w.least; small = w.most; table = (table_of_lem n m t c.requires.0).size; end = omega (arith, c.requires.2) }, omega (arith, c.requires.2, fits_place (quadratic n m t) (whole_of Two a.f []) c.requires.1))
+
+pub returns : goal.returns
+returns c =
+    let a = c.args in
+    let x = c.run-t in
+    two_leaves a.n a.m a.table.now c.requires.0 (whole_of Two a.f []) c.requires.1 a.budget a.end a.list.now _ x.result c.requires.2
+    (simp length-map at x.type-inv.1.1.0.1.1.1.1.0.1.0.1) x.ensures.0
