@@ -3,7 +3,6 @@
 
 mod plain;
 
-use libc::STDOUT_FILENO;
 use positions::PositionAnswer;
 
 // How much was compared, and how much of it differs.
@@ -77,19 +76,18 @@ fn positions_all(t: Tally) -> Tally {
     tally
 }
 
-fn main() {
+// That nobody reads what is printed changes nothing.
+fn main(rt: HostRuntime) {
     let positions = positions_all(Tally {
         compared: 0,
         differing: 0,
     });
-    io::write_all(STDOUT_FILENO, b"positions: ");
-    io::print_decimal(STDOUT_FILENO, positions.compared);
-    io::write_all(STDOUT_FILENO, b" compared, ");
-    io::print_decimal(STDOUT_FILENO, positions.differing);
-    io::write_all(STDOUT_FILENO, b" differ\n");
-    if positions.differing == 0 {
-        io::write_all(STDOUT_FILENO, b"all agree\n");
+    let compared = positions.compared;
+    let differing = positions.differing;
+    let _ = println!(rt; "positions: {compared} compared, {differing} differ");
+    if differing == 0 {
+        let _ = println!(rt; "all agree");
     } else {
-        io::write_all(STDOUT_FILENO, b"some differ\n");
+        let _ = println!(rt; "some differ");
     }
 }

@@ -1,19 +1,25 @@
-// Whole buffers from and to a descriptor, over the C library's read and write: a call that a signal interrupted, or that would
-// have to wait on a descriptor that does not, is tried again. No contract can say which bytes came or went; it speaks of the counts.
+// Whole buffers from a reader and to a writer: a call that a signal interrupted, or that would have to wait on a descriptor that does
+// not, is tried again. No contract can say which bytes a descriptor gave or took; it speaks of the counts.
 #![tactic(auto)]
 
-ghost use Rattle.std.specs.Prelude.{◌+◌, ◌≤◌, ◌<◌, length};
+ghost use Rattle.std.specs.Prelude.{◌≤◌, ◌<◌, length};
 ghost use Rattle.streams.specs.Counts.{bytes_of};
 
-use libc::{EAGAIN, EINTR};
+use std::fs::{OpenFile, OpenOptions};
+use std::io::{ErrorKind, Read, Write};
+use std::rt::Files;
+use std::{fs, thread};
 
 // The descriptor on which a program tells how it ended.
 pub const TOLD: i32 = 3;
 
+// Standard output by name.
+pub const OUTPUT: &str = "/proc/self/fd/1";
+
 // So often a call is tried again, 2^62: no machine lasts so long, and so each function ends.
 const TRIES: u64 = 4611686018427387904;
 
-// What a descriptor gave: so many bytes, or a read that failed.
+// What a reader gave: so many bytes, or a read that failed.
 #[derive(Drop)]
 pub enum Input {
     Bytes(usize),
@@ -21,28 +27,21 @@ pub enum Input {
 }
 
 // Whether what a call answered may be otherwise a moment later.
-fn passing(got: isize) -> bool {
-    if got >= 0 {
-        return false;
-    }
-    let why = os::errno();
-    why == EAGAIN || why == EINTR
+fn passing(why: ErrorKind) -> bool {
+    why == ErrorKind::WouldBlock || why == ErrorKind::Interrupted
 }
 
 // A moment for the others.
 fn rest() {
-    libc::sched_yield();
+    thread::yield_now();
 }
 
-// How many tries are left after a call that moved so many bytes: one fewer if it moved none and may be tried again, none if it failed.
-fn tries_after(got: isize, moved: usize, tries: u64) -> u64
+// How many tries are left after a call that failed: one fewer if it may be tried again, none otherwise.
+fn tries_after(why: ErrorKind, tries: u64) -> u64
     requires { 1 ≤ tries }
-    ensures { (result ≤ tries) × (result < tries + moved) }
+    ensures { result < tries }
 {
-    if moved > 0 {
-        return tries;
-    }
-    if !passing(got) {
+    if !passing(why) {
         return 0;
     }
     rest();
@@ -50,48 +49,73 @@ fn tries_after(got: isize, moved: usize, tries: u64) -> u64
 }
 
 // Reads until the buffer is full or the input ends.
-pub fn receive(fd: i32, buf: &mut [u8]) -> Input
+pub fn receive<R: Read>(from: &mut R, buf: &mut [u8]) -> Input
     ensures { bytes_of result ≤ length buf.new }
 {
     let mut done: usize = 0;
     let mut tries = TRIES;
     while done < buf.len() {
-        let part = &mut buf[done..];
-        let got = libc::read(fd, part);
-        let more = io::count(got, part);
-        if got == 0 {
-            return Input::Bytes(done);
+        match from.read(&mut buf[done..]) {
+            Ok(0) => return Input::Bytes(done),
+            Ok(more) => done += more,
+            Err(e) => {
+                tries = tries_after(e.kind(), tries);
+                if tries == 0 {
+                    return Input::Failed;
+                }
+            }
         }
-        tries = tries_after(got, more, tries);
-        if tries == 0 {
-            return Input::Failed;
-        }
-        done += more;
     }
     Input::Bytes(done)
 }
 
 // Writes the buffer; how many of its bytes were taken. They are fewer than all where a write failed.
-pub fn send(fd: i32, buf: &[u8]) -> usize
+pub fn send<W: Write>(to: &mut W, buf: &[u8]) -> usize
     ensures { result ≤ length buf.now }
 {
     let mut done: usize = 0;
     let mut tries = TRIES;
     while done < buf.len() {
-        let part = &buf[done..];
-        let got = libc::write(fd, part);
-        let taken = io::count(got, part);
-        tries = tries_after(got, taken, tries);
-        if tries == 0 {
-            return done;
+        match to.write(&buf[done..]) {
+            Ok(0) => return done,
+            Ok(taken) => done += taken,
+            Err(e) => {
+                tries = tries_after(e.kind(), tries);
+                if tries == 0 {
+                    return done;
+                }
+            }
         }
-        done += taken;
     }
     done
 }
 
-// Closes a descriptor; whether everything that was written to it is still well then. Either answer may come for any descriptor, so
-// that there is nothing to ensure.
-pub fn finish(fd: i32) -> bool {
-    libc::close(fd) == 0
+// Writes the buffer to the descriptor on which a program tells how it ended; whether all of it was taken.
+pub fn tell(buf: &[u8]) -> bool {
+    io::write_all(TOLD, buf)
+}
+
+// Whether an error says that a file can't be asked, and nothing of what was written.
+fn unasked(why: ErrorKind) -> bool {
+    why == ErrorKind::InvalidInput || why == ErrorKind::Unsupported
+}
+
+// Whether everything that was written to a file is still well.
+fn kept<R: Files>(rt: &R) -> bool {
+    match OpenOptions::new().append(true).open(rt, OUTPUT) {
+        Ok(file) => match file.sync_data() {
+            Ok(()) => true,
+            Err(e) => unasked(e.kind()),
+        },
+        Err(_) => true,
+    }
+}
+
+// At the end of standard output: whether everything that was written to it is still well, as far as it can be asked, which is where it
+// is a file. Either answer may come, so that there is nothing to ensure.
+pub fn finish<R: Files>(rt: &R) -> bool {
+    match fs::metadata(rt, OUTPUT) {
+        Ok(output) => !output.is_file() || kept(rt),
+        Err(_) => true,
+    }
 }

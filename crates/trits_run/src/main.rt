@@ -4,7 +4,6 @@
 
 ghost use Rattle.std.specs.Prelude.{◌<◌};
 
-use libc::STDOUT_FILENO;
 use trits::Vector;
 
 #[derive(Drop)]
@@ -242,35 +241,32 @@ fn legals() -> Count {
 
 // ---- what is written
 
-// A line for one kind of comparison; the sum of all so far.
-fn tell(name: &[u8], all: Count, c: Count) -> Count {
-    io::write_all(STDOUT_FILENO, name);
-    io::print_decimal(STDOUT_FILENO, c.asked);
-    io::write_all(STDOUT_FILENO, b" differences ");
-    io::print_decimal(STDOUT_FILENO, c.differ);
-    io::write_all(STDOUT_FILENO, b"\n");
+// A line for one kind of comparison; the sum of all so far. That nobody reads the line changes nothing.
+fn tell(rt: &HostRuntime, name: &str, all: Count, c: Count) -> Count {
+    let asked = c.asked;
+    let differ = c.differ;
+    let _ = println!(rt; "{name} {asked} differences {differ}");
     Count {
-        asked: std::num::wrapping_add_u64(all.asked, c.asked),
-        differ: std::num::wrapping_add_u64(all.differ, c.differ),
+        asked: std::num::wrapping_add_u64(all.asked, asked),
+        differ: std::num::wrapping_add_u64(all.differ, differ),
     }
 }
 
-fn main() {
+fn main(rt: HostRuntime) {
     let none = Count {
         asked: 0,
         differ: 0,
     };
-    let a = tell(b"products ", none, pairs(Op::Product, 9));
-    let b = tell(b"multiples ", a, pairs(Op::Multiple, 9));
-    let c = tell(b"products in words ", b, words(Op::Product));
-    let d = tell(b"multiples in words ", c, words(Op::Multiple));
-    let e = tell(b"trits read ", d, words(Op::Read));
-    let f = tell(b"trits put ", e, words(Op::Put));
-    let g = tell(b"zero tests ", f, zeros());
-    let all = tell(b"legality tests ", g, legals());
+    let a = tell(&rt, "products", none, pairs(Op::Product, 9));
+    let b = tell(&rt, "multiples", a, pairs(Op::Multiple, 9));
+    let c = tell(&rt, "products in words", b, words(Op::Product));
+    let d = tell(&rt, "multiples in words", c, words(Op::Multiple));
+    let e = tell(&rt, "trits read", d, words(Op::Read));
+    let f = tell(&rt, "trits put", e, words(Op::Put));
+    let g = tell(&rt, "zero tests", f, zeros());
+    let all = tell(&rt, "legality tests", g, legals());
+    let asked = all.asked;
     if all.differ == 0 {
-        io::write_all(STDOUT_FILENO, b"all ");
-        io::print_decimal(STDOUT_FILENO, all.asked);
-        io::write_all(STDOUT_FILENO, b" agree\n");
+        let _ = println!(rt; "all {asked} agree");
     }
 }

@@ -1,10 +1,9 @@
 -- `streams::send` keeps its contract and ends: each turn leaves less to write or fewer tries.
-use Prim.Native.Nat.{◌+◌, ◌-◌, ◌≤◌}
-use lib.ListN.{length}
+use Rattle.std.proofs.Common.{length, ◌-◌, ◌≤◌, ◌+◌}
 use Rattle.streams.proofs.send.Given as goal
 
 abbrev pub invariant-loop-done : goal.invariant-loop-done
-invariant-loop-done l = (l.done ≤ length l.buf) × (1 ≤ l.tries)
+invariant-loop-done g l = (l.done ≤ length l.buf) × (1 ≤ l.tries)
 
 abbrev pub decreases-loop-done : goal.decreases-loop-done
-decreases-loop-done l = (length l.buf - l.done) + l.tries
+decreases-loop-done g l = (length l.buf - l.done) + l.tries
