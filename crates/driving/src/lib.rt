@@ -1,5 +1,5 @@
 // The calls of a search after the first text, each text written before the next call; the bytes taken are counted. What is left to write is
-// said in planner's specs/Output. That `send` is called for each text, and with which descriptor, is read and tested. Contracts cite specs/Driving.
+// said in planner's specs/Output. That `send` is called for each text, and with which writer, is read and tested. Contracts cite specs/Driving.
 #![tactic(auto)]
 
 ghost use Rattle.std.specs.Prelude.{◌≡◌, true, ◌+◌, ◌*◌, ◌≤◌, length};
@@ -7,7 +7,6 @@ ghost use Rattle.listing.specs.Listing.{longest_layout, longest_totals};
 ghost use Rattle.planner.specs.Output.{Standing};
 ghost use Rattle.driving.specs.Driving.{text_bytes, Drives};
 
-use libc::STDOUT_FILENO;
 use planner::Session;
 use progress::Screen;
 
@@ -26,6 +25,7 @@ pub struct Driven {
 
 // The calls after the first text, each written before the next; so many bytes were taken before them.
 pub fn drive(
+    rt: &HostRuntime,
     begun: Session,
     table: &[u64],
     list: &mut [u64],
@@ -39,12 +39,13 @@ pub fn drive(
     let mut s = begun;
     let mut sent = first;
     let mut shown = false;
+    let mut out = rt.stdout();
     while s.open {
         let before = s.points;
         s = planner::next(s, table, BUDGET, list, text);
         let used = s.used;
-        shown = progress::make_room(screen, shown, used);
-        let got = streams::send(STDOUT_FILENO, &text[..used]);
+        shown = progress::make_room(rt, screen, shown, used);
+        let got = streams::send(&mut out, &text[..used]);
         sent += got as u64;
         if got < used {
             return Driven {
@@ -55,7 +56,7 @@ pub fn drive(
                 all: false,
             };
         }
-        shown = progress::show(screen, shown, before, s);
+        shown = progress::show(rt, screen, shown, before, s);
     }
     Driven {
         points: s.points,

@@ -4,8 +4,6 @@
 ghost use Rattle.std.specs.Prelude.{length};
 ghost use Rattle.endings.specs.Endings.{Concludes, Delivers};
 
-use libc::STDOUT_FILENO;
-
 // How many bytes are to be told, how many bytes of the output were taken, and whether closing it went well.
 #[derive(Drop)]
 pub struct Ending {
@@ -15,10 +13,10 @@ pub struct Ending {
 }
 
 // The end of a run that wrote everything: the output is closed, and as much is told as there is to tell, if that went well.
-pub fn concluded(told: usize, sent: u64) -> Ending
+pub fn concluded(rt: &HostRuntime, told: usize, sent: u64) -> Ending
     ensures { Concludes told sent result }
 {
-    let closed = streams::finish(STDOUT_FILENO);
+    let closed = streams::finish(rt);
     if !closed {
         return Ending {
             told: 0,
@@ -30,10 +28,11 @@ pub fn concluded(told: usize, sent: u64) -> Ending
 }
 
 // The whole output in one text, and its end.
-pub fn deliver(output: &[u8], told: usize) -> Ending
+pub fn deliver(rt: &HostRuntime, output: &[u8], told: usize) -> Ending
     ensures { Delivers told (length output.now) result }
 {
-    let got = streams::send(STDOUT_FILENO, output);
+    let mut out = rt.stdout();
+    let got = streams::send(&mut out, output);
     let sent = got as u64;
     if got < output.len() {
         return Ending {
@@ -42,5 +41,5 @@ pub fn deliver(output: &[u8], told: usize) -> Ending
             closed: false,
         };
     }
-    concluded(told, sent)
+    concluded(rt, told, sent)
 }

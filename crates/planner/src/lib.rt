@@ -18,7 +18,7 @@ use refusals::{MOST_UNKNOWNS, SECOND_WORDS};
 use walks::{Report, Stop};
 
 // Between two calls: the walk's record, what the calls so far did, and how many bytes of the text are to be written.
-#[derive(Drop)]
+#[derive(Clone, Copy)]
 pub struct Session {
     pub n: u64,
     pub m: u64,

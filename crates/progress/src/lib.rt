@@ -2,35 +2,48 @@
 // on the same terminal. It is shown beside a terminal or a file as standard output alone: who reads a pipe may write on the terminal too.
 #![tactic(auto)]
 
-use libc::{SEEK_CUR, STDERR_FILENO, STDOUT_FILENO};
 use planner::Session;
+use std::fs;
+use std::io::IsTerminal;
+use std::os::unix::fs::FileTypeExt;
 
 // Whether progress is shown, and whether standard output is a terminal too.
-#[derive(Drop)]
+#[derive(Clone, Copy)]
 pub struct Screen {
     pub progress: bool,
     pub shared: bool,
 }
 
+// Whether standard output is known, and is neither a pipe nor a socket, which someone else reads at the other end.
+fn unread(rt: &HostRuntime) -> bool {
+    match fs::metadata(rt, streams::OUTPUT) {
+        Ok(output) => {
+            let kind = output.file_type();
+            !kind.is_fifo() && !kind.is_socket()
+        }
+        Err(_) => false,
+    }
+}
+
 // What standard error and standard output are.
-pub fn look() -> Screen {
-    let shared = libc::isatty(STDOUT_FILENO) == 1;
-    let alone = shared || libc::lseek(STDOUT_FILENO, 0, SEEK_CUR) >= 0;
-    let progress = alone && libc::isatty(STDERR_FILENO) == 1;
+pub fn look(rt: &HostRuntime) -> Screen {
+    let shared = rt.stdout().is_terminal();
+    let alone = shared || unread(rt);
+    let progress = alone && rt.stderr().is_terminal();
     Screen { progress, shared }
 }
 
 // The line is removed.
-fn wipe() {
-    streams::send(STDERR_FILENO, b"\r\x1b[K");
+fn wipe(rt: &HostRuntime) {
+    streams::say(rt, b"\r\x1b[K");
 }
 
 // Before so many bytes are written: the line goes where they may come on its terminal. Answers whether it is still there.
-pub fn make_room(screen: Screen, shown: bool, bytes: usize) -> bool {
+pub fn make_room(rt: &HostRuntime, screen: Screen, shown: bool, bytes: usize) -> bool {
     if !shown || !screen.shared || bytes == 0 {
         return shown;
     }
-    wipe();
+    wipe(rt);
     false
 }
 
@@ -43,22 +56,22 @@ fn due(before: u64, now: u64) -> bool {
 }
 
 // The line anew, where it is due. Answers whether it is there.
-pub fn show(screen: Screen, shown: bool, before: u64, s: Session) -> bool {
+pub fn show(rt: &HostRuntime, screen: Screen, shown: bool, before: u64, s: Session) -> bool {
     if !screen.progress || !due(before, s.points) {
         return shown;
     }
-    streams::send(STDERR_FILENO, b"\rpoints ");
-    io::print_decimal(STDERR_FILENO, s.points);
-    streams::send(STDERR_FILENO, b" of ");
-    io::print_decimal(STDERR_FILENO, positions::power(s.n));
-    streams::send(STDERR_FILENO, b" found ");
-    io::print_decimal(STDERR_FILENO, s.found);
+    streams::say(rt, b"\rpoints ");
+    streams::say_number(rt, s.points);
+    streams::say(rt, b" of ");
+    streams::say_number(rt, positions::power(s.n));
+    streams::say(rt, b" found ");
+    streams::say_number(rt, s.found);
     true
 }
 
 // At the end nothing is left of it.
-pub fn clear(screen: Screen) {
+pub fn clear(rt: &HostRuntime, screen: Screen) {
     if screen.progress {
-        wipe();
+        wipe(rt);
     }
 }

@@ -1,6 +1,6 @@
 // The whole output of a graph file sent to standard output, a text at a time: what is sent is said in planner's specs/Output. The bytes
 // taken are counted; specs/Ending says when something is to be told at the end, and what. That `send` is called for each text, and
-// with which descriptor, is read and tested, and that the bytes arrive is the system's part.
+// with which writer, is read and tested, and that the bytes arrive is the system's part.
 #![tactic(auto)]
 
 ghost use Rattle.std.specs.Prelude.{◌≡◌, true, ◌+◌, ◌*◌, ◌≤◌, length};
@@ -12,20 +12,26 @@ ghost use Rattle.sending.specs.Ending.{Walks, Ends};
 
 use driving::drive;
 use endings::Ending;
-use libc::STDOUT_FILENO;
 use planner::Session;
 
 // The bytes of the text that is lent to each call.
 pub const TEXT_BYTES: usize = 65536;
 
 // The walk of a graph that was read, and its end; so many bytes were taken before it.
-fn walk_graph(s: Session, table: &[u64], list: &mut [u64], text: &mut [u8], first: u64) -> Ending
+fn walk_graph(
+    rt: &HostRuntime,
+    s: Session,
+    table: &[u64],
+    list: &mut [u64],
+    text: &mut [u8],
+    first: u64,
+) -> Ending
     requires { Standing table.now s × (1 ≤ length list.old) × (longest_layout * length list.old + longest_totals ≤ length text.old) × (length text.old ≤ text_bytes) × (first ≤ text_bytes) × (s.open ≡ true) }
     ensures { Walks table.now s first text.new result }
 {
-    let screen = progress::look();
-    let d = drive(s, table, list, text, first, screen);
-    progress::clear(screen);
+    let screen = progress::look(rt);
+    let d = drive(rt, s, table, list, text, first, screen);
+    progress::clear(rt, screen);
     if !d.all {
         return Ending {
             told: 0,
@@ -35,11 +41,12 @@ fn walk_graph(s: Session, table: &[u64], list: &mut [u64], text: &mut [u8], firs
     }
     let head = listing::put_head(text, s.n, s.m);
     let told = listing::put_totals(text, head, d.points, d.additions, d.found);
-    endings::concluded(told, d.sent)
+    endings::concluded(rt, told, d.sent)
 }
 
 // The whole output for an input, and its end.
 pub fn run(
+    rt: &HostRuntime,
     input: &[u8],
     words: &mut [u64],
     table: &mut [u64],
@@ -51,7 +58,8 @@ pub fn run(
 {
     let s = planner::begin(input, words, table, text);
     let used = s.used;
-    let got = streams::send(STDOUT_FILENO, &text[..used]);
+    let mut out = rt.stdout();
+    let got = streams::send(&mut out, &text[..used]);
     let first = got as u64;
     if got < used {
         return Ending {
@@ -61,8 +69,8 @@ pub fn run(
         };
     }
     if !s.open {
-        return endings::concluded(used, first);
+        return endings::concluded(rt, used, first);
     }
     let size = tables::words(s.n);
-    walk_graph(s, &table[..size], list, text, first)
+    walk_graph(rt, s, &table[..size], list, text, first)
 }

@@ -90,6 +90,19 @@ pub fn send<W: Write>(to: &mut W, buf: &[u8]) -> usize
     done
 }
 
+// Words on standard error. That nobody can read them changes nothing.
+pub fn say(rt: &HostRuntime, words: &[u8]) {
+    let mut to = rt.stderr();
+    send(&mut to, words);
+}
+
+// A number among such words.
+pub fn say_number(rt: &HostRuntime, n: u64) {
+    let mut text = [0u8; 20];
+    let k = io::decimal(n, &mut text);
+    say(rt, &text[..k]);
+}
+
 // Writes the buffer to the descriptor on which a program tells how it ended; whether all of it was taken.
 pub fn tell(buf: &[u8]) -> bool {
     io::write_all(TOLD, buf)

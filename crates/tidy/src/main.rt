@@ -9,7 +9,6 @@ ghost use Rattle.tidy.specs.Output.{Runs};
 
 use endings::Ending;
 use exchange::TidyAnswer;
-use libc::{STDERR_FILENO, STDIN_FILENO};
 use streams::Input;
 
 // The bytes of the output: as many as the longest text has.
@@ -26,7 +25,7 @@ struct Ran {
 }
 
 // The whole output for an input, and its end.
-fn run(input: &[u8], out: &mut [u8], text: &mut [u8]) -> Ran
+fn run(rt: &HostRuntime, input: &[u8], out: &mut [u8], text: &mut [u8]) -> Ran
     requires { (length out.old ≡ tidy_most) × (length text.old ≡ 64) }
     ensures { Runs input.now text.new result }
 {
@@ -35,30 +34,30 @@ fn run(input: &[u8], out: &mut [u8], text: &mut [u8]) -> Ran
         TidyAnswer::Tidied { bytes, .. } => {
             let used = bytes as usize;
             let told = texts::put(text, 0, b"ended\n");
-            let ending = endings::deliver(&out[..used], told);
+            let ending = endings::deliver(rt, &out[..used], told);
             Ran { ending, answer }
         }
         TidyAnswer::Refused { why, line } => {
             let number = refusals::number(why);
             let told = texts::put_refusal(text, number, line);
-            let ending = endings::deliver(&text[..told], told);
+            let ending = endings::deliver(rt, &text[..told], told);
             Ran { ending, answer }
         }
     }
 }
 
 // So many of something, in words.
-fn say(count: u64, one: &[u8], many: &[u8]) {
-    io::print_decimal(STDERR_FILENO, count);
+fn say(rt: &HostRuntime, count: u64, one: &[u8], many: &[u8]) {
+    streams::say_number(rt, count);
     if count == 1 {
-        streams::send(STDERR_FILENO, one);
+        streams::say(rt, one);
         return;
     }
-    streams::send(STDERR_FILENO, many);
+    streams::say(rt, many);
 }
 
 // What the text had, in a sentence.
-fn say_counts(answer: TidyAnswer) {
+fn say_counts(rt: &HostRuntime, answer: TidyAnswer) {
     match answer {
         TidyAnswer::Tidied {
             comments,
@@ -66,10 +65,16 @@ fn say_counts(answer: TidyAnswer) {
             turned,
             ..
         } => {
-            streams::send(STDERR_FILENO, b"tidy: the text had ");
-            say(comments, b" comment line, ", b" comment lines, ");
-            say(repeated, b" repeated edge and ", b" repeated edges and ");
+            streams::say(rt, b"tidy: the text had ");
+            say(rt, comments, b" comment line, ", b" comment lines, ");
             say(
+                rt,
+                repeated,
+                b" repeated edge and ",
+                b" repeated edges and ",
+            );
+            say(
+                rt,
                 turned,
                 b" line with the larger vertex first\n",
                 b" lines with the larger vertex first\n",
@@ -80,32 +85,30 @@ fn say_counts(answer: TidyAnswer) {
 }
 
 // What is to be told, or words where there is nothing.
-fn tell(line: &[u8], answer: TidyAnswer) {
+fn tell(rt: &HostRuntime, line: &[u8], answer: TidyAnswer) {
     if line.len() == 0 {
-        streams::send(
-            STDERR_FILENO,
-            b"tidy: standard output could not be written\n",
-        );
+        streams::say(rt, b"tidy: standard output could not be written\n");
         return;
     }
-    streams::send(streams::TOLD, line);
-    say_counts(answer);
+    streams::tell(line);
+    say_counts(rt, answer);
 }
 
-fn main() {
+fn main(rt: HostRuntime) {
     let mut buf = [0u8; 32769];
     let mut out = [0u8; OUT_BYTES];
     let mut text = [0u8; TEXT_BYTES];
-    match streams::receive(STDIN_FILENO, &mut buf) {
+    let mut from = rt.stdin();
+    match streams::receive(&mut from, &mut buf) {
         Input::Failed => {
-            streams::send(STDERR_FILENO, b"tidy: standard input could not be read\n");
+            streams::say(&rt, b"tidy: standard input could not be read\n");
         }
         Input::Bytes(k) => {
-            let r = run(&buf[..k], &mut out, &mut text);
+            let r = run(&rt, &buf[..k], &mut out, &mut text);
             let ending = r.ending;
             let answer = r.answer;
             let told = ending.told;
-            tell(&text[..told], answer);
+            tell(&rt, &text[..told], answer);
         }
     }
 }
