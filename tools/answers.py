@@ -169,6 +169,42 @@ class Turner:
         return re.sub(r"(?<![\w'.\-₀-₉])(" + WORD + r")((?:\." + WORD + r")*)", lambda m: one(m) if m.group(1) in alias else m.group(0), text)
 
 
+def top_level(text):
+    """Each character of the text with how deep it stands in brackets."""
+    deep = 0
+    for i, ch in enumerate(text):
+        if ch in ")]}":
+            deep -= 1
+        yield i, ch, deep
+        if ch in "([{":
+            deep += 1
+
+
+def by_clause(body, fields):
+    """A body that gave a tuple for several clauses gives a record of them by name."""
+    cut = 0
+    for i, ch, deep in top_level(body):
+        if deep == 0 and ch == "i" and re.match(r"in(?=[\s(])", body[i:]) and (i == 0 or body[i - 1] in " \n"):
+            cut = i + 2
+    head, last = body[:cut], body[cut:]
+    pad = re.match(r"\s*", last).group(0)
+    last = last.strip()
+    if last.startswith("(") and last.endswith(")"):
+        inner, parts, start = last[1:-1], [], 0
+        for i, ch, deep in top_level(inner):
+            if deep < 0:
+                break
+            if deep == 0 and ch == ",":
+                parts.append(inner[start:i].strip())
+                start = i + 1
+        else:
+            if inner[start:].strip():
+                parts.append(inner[start:].strip())
+            if len(parts) == len(fields):
+                return head + pad + "record { " + "; ".join(f"{f} = {q}" for f, q in zip(fields, parts)) + " }"
+    return head + pad + f"let all = {last} in record {{ " + "; ".join(f"{f} = all.{k}" for k, f in enumerate(fields)) + " }"
+
+
 def convert(folder, names):
     p = os.path.join(folder, "Proof.antt")
     rel = os.path.relpath(folder, os.path.join(ROOT, "proofs")).split(os.sep)
@@ -241,6 +277,9 @@ def convert(folder, names):
                 body = f" λ {' '.join(params[1:])}." + body
             place = asked[i][0]
             body = t.body(body, place, params[0])
+            fields = e["asked"].get(old)
+            if fields and len(fields) > 1:
+                body = by_clause(body, fields)
             ans.append("\n".join([f"pub {new} : goal.{new}"] + unf + [f"{new} c ={body}"]))
             continue
         if "tie.close" in whole or "tie.spec" in whole:
