@@ -19,7 +19,7 @@ big-part-requires c =
     let q = c.requires.k_value.1.1.0 in
     let f = c.requires.k_value.1.1.1 in
     let e = end_small a.n z.small in
-    (fits_head a.table.now a.n a.k a.b a.c c.pair-p.result (omega (arith, q)) z.small z.table k.0 q.1 q.2 c.pair-p.ensures.0, (f.0, omega (arith, m.2), omega (arith, c.head-h.ensures.count, f.1)))
+    record { fits = fits_head a.table.now a.n a.k a.b a.c c.pair-p.result (omega (arith, q)) z.small z.table k.0 q.1 q.2 c.pair-p.ensures.0; found_in_bounds = (f.0, omega (arith, m.2), omega (arith, c.head-h.ensures.count, f.1)) }
 
 pub points-requires : goal.points-requires
 points-requires c =

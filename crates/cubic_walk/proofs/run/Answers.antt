@@ -27,7 +27,7 @@ overflow_sub-len c =
 pub steps-a-requires : goal.steps-a-requires
 steps-a-requires c =
     let o = c.loop-start.invariant.1.sound in
-    (c.requires.sized, record { place = o.place; found = o.found; additions = o.additions })
+    record { sized = c.requires.sized; sane_2 = record { place = o.place; found = o.found; additions = o.additions } }
 
 pub overflow_sub-more : goal.overflow_sub-more
 overflow_sub-more c = omega (arith, c.steps-a.ensures.sane.1)
@@ -44,7 +44,7 @@ overflow_sub-more-in-loop-start c =
     omega (arith, x.ensures.1.1, f.ensures.0)
 
 pub leaps-r-requires : goal.leaps-r-requires
-leaps-r-requires c = (c.requires.sized, c.steps-a.ensures.sane.0)
+leaps-r-requires c = record { sized = c.requires.sized; sane_2 = c.steps-a.ensures.sane.0 }
 
 pub overflow_sub-left : goal.overflow_sub-left
 overflow_sub-left c = omega (arith, c.leaps-r.ensures.sane.1)
@@ -87,4 +87,4 @@ returns c =
     let a = c.args in
     let w = l.invariant.1 in
     let e = goes_no_more 3 (walk_of a.n (triple_at a.table.now a.n)) counts 3 a.end a.budget l.left (length a.list.now) _ _ _ w refl c.going.ensures c.loop-start-test.false in
-    (e, (omega (arith, w.went, w.less), w.sound.place))
+    record { state = e; range = (omega (arith, w.went, w.less), w.sound.place) }

@@ -17,7 +17,7 @@ pub run-t-requires : goal.run-t-requires
 run-t-requires c =
     let a = c.args in
     let w = within (cubic a.n a.m a.table.now) c.requires.0 in
-    (record { some = w.least; small = w.most; table = (cubic_table_of a.n a.m a.table.now c.requires.0).size; end = omega (arith, c.requires.2) }, omega (arith, c.requires.2, fits_place (cubic a.n a.m a.table.now) (whole_of Three a.s a.seconds.now) c.requires.1))
+    record { sized = record { some = w.least; small = w.most; table = (cubic_table_of a.n a.m a.table.now c.requires.0).size; end = omega (arith, c.requires.2) }; place_le_end = omega (arith, c.requires.2, fits_place (cubic a.n a.m a.table.now) (whole_of Three a.s a.seconds.now) c.requires.1) }
 
 pub returns : goal.returns
 returns c =

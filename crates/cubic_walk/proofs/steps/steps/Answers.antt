@@ -40,7 +40,7 @@ turn-h-requires c =
     let g = turns a.table.now a.n a.end c.requires.sized a.budget l.left (length a.list.now) _ _ _ l.invariant.1 refl c.going.ensures c.loop-f-test.true in
     let z = c.requires.sized in
     let v = c.split-f.ensures in
-    (record { some = z.some; small = z.small; table = z.table; end = omega arith }, (g.far, v.position, v.whole, g.count))
+    record { sized = record { some = z.some; small = z.small; table = z.table; end = omega arith }; place_bound = (g.far, v.position, v.whole, g.count) }
 
 pub offset_bounds-slots-b-in-loop-f : goal.offset_bounds-slots-b-in-loop-f
 offset_bounds-slots-b-in-loop-f c =
@@ -103,4 +103,4 @@ returns c =
     let a = c.args in
     let w = l.invariant.1 in
     let e = goes_no_more 3 (walk_of a.n (triple_at a.table.now a.n)) counts 3 a.end a.budget l.left (length a.list.now) _ _ _ w refl c.going.ensures c.loop-f-test.false in
-    (e, (record { place = w.sound.place; found = w.sound.found; additions = w.sound.additions }, (omega (arith, w.went, w.less), omega (arith, w.went))))
+    let all = (e, (record { place = w.sound.place; found = w.sound.found; additions = w.sound.additions }, (omega (arith, w.went, w.less), omega (arith, w.went)))) in record { state = all.0; sane = all.1; less = all.2 }
