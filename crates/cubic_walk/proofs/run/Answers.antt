@@ -41,7 +41,7 @@ overflow_sub-more-in-loop-start c =
     let f = c.lead-first in
     let h : 0 < f.result = f.ensures.1 g.left in
     let x = c.steps-a in
-    omega (arith, x.ensures.1.1, f.ensures.0)
+    omega (arith, x.ensures.sane.1, f.ensures.0)
 
 pub leaps-r-requires : goal.leaps-r-requires
 leaps-r-requires c = record { sized = c.requires.sized; sane_2 = c.steps-a.ensures.sane.0 }
@@ -62,8 +62,8 @@ loop-start-smaller c =
     let h : 0 < f.result = f.ensures.1 g.left in
     let x = c.steps-a in
     let y = c.leaps-r in
-    let p : l.r.walker.place < x.result.walker.place = goes_some 3 (walk_of a.n T) counts 3 (step_near (point_of 3 a.n) T) a.end f.result l.left (state_of l.r l.list) (state_of x.result _) g h x.ensures.0 in
-    omega (arith, p, g.left, x.ensures.1.1, f.ensures.0)
+    let p : l.r.walker.place < x.result.walker.place = goes_some 3 (walk_of a.n T) counts 3 (step_near (point_of 3 a.n) T) a.end f.result l.left (state_of l.r l.list) (state_of x.result _) g h x.ensures.state in
+    omega (arith, p, g.left, x.ensures.sane.1, f.ensures.0)
 
 pub loop-start-preserved : goal.loop-start-preserved
 loop-start-preserved c =
@@ -75,8 +75,8 @@ loop-start-preserved c =
     let h : 0 < f.result = f.ensures.1 g.left in
     let x = c.steps-a in
     let y = c.leaps-r in
-    let o = y.ensures.1.0 in
-    (l.invariant.0, walked_on 3 (walk_of a.n T) counts 3 (step_near (point_of 3 a.n) T) a.end f.result a.budget l.left _ (state_of l.r l.list) (state_of x.result _) (state_of y.result _) l.invariant.1 f.ensures.0 x.ensures.0 x.auto.1.1.1.1.1.0 y.ensures.0 record { place = o.place; found = o.found; additions = o.additions } y.auto.1.1.1.1.1.0 y.ensures.1.1.0 y.ensures.1.1.1)
+    let o = y.ensures.sane.0 in
+    (l.invariant.0, walked_on 3 (walk_of a.n T) counts 3 (step_near (point_of 3 a.n) T) a.end f.result a.budget l.left _ (state_of l.r l.list) (state_of x.result _) (state_of y.result _) l.invariant.1 f.ensures.0 x.ensures.state x.auto.list y.ensures.state record { place = o.place; found = o.found; additions = o.additions } y.auto.list y.ensures.sane.1.0 y.ensures.sane.1.1)
 
 pub shape_of-list : goal.shape_of-list
 shape_of-list c = c.loop-start.invariant.1.list

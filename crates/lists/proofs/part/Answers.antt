@@ -25,7 +25,7 @@ slice_bounds-encode-end c =
     let n = c.lesser-c.result in
     let h : n ≤ length a.words.now = omega (arith, c.lesser-c.ensures) in
     let e = ap (λ (w : Report). w.found) c.did-this.ensures in
-    omega (arith, e, piece_fits (table_with a.degree a.n a.m a.table.now) a.f.place.0 a.left n a.words.now c.ran-o.new.1.1.1.1.1.1.1.0 (outcome_with a.degree c.ran-o.result c.ran-o.new.1.1.1.1.1.0) h c.ran-o.ensures.0 c.ran-o.ensures.1, piece_long (table_with a.degree a.n a.m a.table.now) a.f.place.0 a.left n a.words.now c.ran-o.new.1.1.1.1.1.1.1.0 (outcome_with a.degree c.ran-o.result c.ran-o.new.1.1.1.1.1.0) h c.ran-o.ensures.0 c.ran-o.ensures.1, h)
+    omega (arith, e, piece_fits (table_with a.degree a.n a.m a.table.now) a.f.place.0 a.left n a.words.now c.ran-o.new.list (outcome_with a.degree c.ran-o.result c.ran-o.new.seconds) h c.ran-o.ensures.0 c.ran-o.ensures.1, piece_long (table_with a.degree a.n a.m a.table.now) a.f.place.0 a.left n a.words.now c.ran-o.new.list (outcome_with a.degree c.ran-o.result c.ran-o.new.seconds) h c.ran-o.ensures.0 c.ran-o.ensures.1, h)
 
 pub slice_bounds-encode-end-2 : goal.slice_bounds-encode-end-2
 slice_bounds-encode-end-2 c =
@@ -33,7 +33,7 @@ slice_bounds-encode-end-2 c =
     let n = c.lesser-c.result in
     let h : n ≤ length a.words.now = omega (arith, c.lesser-c.ensures) in
     let e = ap (λ (w : Report). w.found) c.did-this.ensures in
-    e ∙ sym (piece_size (table_with a.degree a.n a.m a.table.now) a.f.place.0 a.left n a.words.now c.ran-o.new.1.1.1.1.1.1.1.0 (outcome_with a.degree c.ran-o.result c.ran-o.new.1.1.1.1.1.0) h c.ran-o.ensures.0 c.ran-o.ensures.1) ∙ ap (λ (i : ℕ). length (take i (c.ran-o.new.1.1.1.1.1.1.1.0 ++ drop n a.words.now))) (sym e)
+    e ∙ sym (piece_size (table_with a.degree a.n a.m a.table.now) a.f.place.0 a.left n a.words.now c.ran-o.new.list (outcome_with a.degree c.ran-o.result c.ran-o.new.seconds) h c.ran-o.ensures.0 c.ran-o.ensures.1) ∙ ap (λ (i : ℕ). length (take i (c.ran-o.new.list ++ drop n a.words.now))) (sym e)
 
 pub encode-requires : goal.encode-requires
 encode-requires c =
@@ -41,8 +41,8 @@ encode-requires c =
     let n = c.lesser-c.result in
     let h : n ≤ length a.words.now = omega (arith, c.lesser-c.ensures) in
     let e = ap (λ (w : Report). w.found) c.did-this.ensures in
-    let i = ap (λ (i : ℕ). length (take i (c.ran-o.new.1.1.1.1.1.1.1.0 ++ drop n a.words.now))) e ∙ piece_size (table_with a.degree a.n a.m a.table.now) a.f.place.0 a.left n a.words.now c.ran-o.new.1.1.1.1.1.1.1.0 (outcome_with a.degree c.ran-o.result c.ran-o.new.1.1.1.1.1.0) h c.ran-o.ensures.0 c.ran-o.ensures.1 in
-    omega (arith, i, piece_fits (table_with a.degree a.n a.m a.table.now) a.f.place.0 a.left n a.words.now c.ran-o.new.1.1.1.1.1.1.1.0 (outcome_with a.degree c.ran-o.result c.ran-o.new.1.1.1.1.1.0) h c.ran-o.ensures.0 c.ran-o.ensures.1, c.lesser-c.ensures, c.requires.2)
+    let i = ap (λ (i : ℕ). length (take i (c.ran-o.new.list ++ drop n a.words.now))) e ∙ piece_size (table_with a.degree a.n a.m a.table.now) a.f.place.0 a.left n a.words.now c.ran-o.new.list (outcome_with a.degree c.ran-o.result c.ran-o.new.seconds) h c.ran-o.ensures.0 c.ran-o.ensures.1 in
+    omega (arith, i, piece_fits (table_with a.degree a.n a.m a.table.now) a.f.place.0 a.left n a.words.now c.ran-o.new.list (outcome_with a.degree c.ran-o.result c.ran-o.new.seconds) h c.ran-o.ensures.0 c.ran-o.ensures.1, c.lesser-c.ensures, c.requires.2)
 
 pub returns : goal.returns
 returns c =
@@ -51,9 +51,9 @@ returns c =
     let h : n ≤ length a.words.now = omega (arith, c.lesser-c.ensures) in
     let e = ap (λ (w : Report). w.found) c.did-this.ensures in
     let i = c.lesser-c.ensures in (
-      piece_outcome (table_with a.degree a.n a.m a.table.now) a.f.place.0 a.left n a.words.now c.ran-o.new.1.1.1.1.1.1.1.0 (outcome_with a.degree c.ran-o.result c.ran-o.new.1.1.1.1.1.0) h c.ran-o.ensures.0 c.ran-o.ensures.1 ∙ ap (ran_of (table_with a.degree a.n a.m a.table.now) a.f.place.0 a.left) i,
+      piece_outcome (table_with a.degree a.n a.m a.table.now) a.f.place.0 a.left n a.words.now c.ran-o.new.list (outcome_with a.degree c.ran-o.result c.ran-o.new.seconds) h c.ran-o.ensures.0 c.ran-o.ensures.1 ∙ ap (ran_of (table_with a.degree a.n a.m a.table.now) a.f.place.0 a.left) i,
       c.encode.ensures
           ∙ ap (λ (f : List ℕ). pasted a.list.now (8 * a.at) (bytes_from f)) (
-          ap (λ (j : ℕ). take j (c.ran-o.new.1.1.1.1.1.1.1.0 ++ drop n a.words.now)) e ∙ piece_listed (table_with a.degree a.n a.m a.table.now) a.f.place.0 a.left n a.words.now c.ran-o.new.1.1.1.1.1.1.1.0 (outcome_with a.degree c.ran-o.result c.ran-o.new.1.1.1.1.1.0) h c.ran-o.ensures.0 c.ran-o.ensures.1
+          ap (λ (j : ℕ). take j (c.ran-o.new.list ++ drop n a.words.now)) e ∙ piece_listed (table_with a.degree a.n a.m a.table.now) a.f.place.0 a.left n a.words.now c.ran-o.new.list (outcome_with a.degree c.ran-o.result c.ran-o.new.seconds) h c.ran-o.ensures.0 c.ran-o.ensures.1
           ∙ ap (found_in (table_with a.degree a.n a.m a.table.now) a.f.place.0 a.left) i),
     )

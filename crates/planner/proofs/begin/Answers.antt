@@ -16,7 +16,7 @@ words-size-requires c =
     (least c.args.input.now _ _ e, most c.args.input.now _ _ e)
 
 pub slice_bounds-start-end-in-Graph : goal.slice_bounds-start-end-in-Graph
-slice_bounds-start-end-in-Graph c = sym (length-take-le c.words-size.result c.read-answer.new.1.0 (omega (arith, c.words-size.ensures.1, c.read-answer.auto.1.0, c.requires.0)))
+slice_bounds-start-end-in-Graph c = sym (length-take-le c.words-size.result c.read-answer.new.words (omega (arith, c.words-size.ensures.1, c.read-answer.auto.words, c.requires.0)))
 
 pub slice_bounds-start-end-in-Graph-3 : goal.slice_bounds-start-end-in-Graph-3
 slice_bounds-start-end-in-Graph-3 c = sym (length-take-le c.words-size.result c.args.table.now (omega (arith, c.words-size.ensures.1, c.requires.1)))
@@ -30,7 +30,7 @@ start-requires c =
     let e = sym g.1 ∙ r.ensures.0 ∙ ap (λ (w : ℕ). answer_of (outcome_of x w)) c.requires.0 in
     let q = r.ensures.1 ∙ ap (λ (w : ℕ). words_after (outcome_of x w) c.args.words.now) c.requires.0 in
     let l = length-take-le k.result c.args.table.now (omega (arith, k.ensures.1, c.requires.1)) in (
-      rw k.ensures.0 (startable x _ _ e c.args.words.now r.new.1.0 (take (2 * count_of g.0.0) c.args.table.now) q (rw k.ensures.0 at (l ∙ k.ensures.0))),
+      rw k.ensures.0 (startable x _ _ e c.args.words.now r.new.words (take (2 * count_of g.0.0) c.args.table.now) q (rw k.ensures.0 at (l ∙ k.ensures.0))),
       omega (arith, c.requires.2),
     )
 
@@ -38,7 +38,7 @@ pub returns-in-Refused : goal.returns-in-Refused
 returns-in-Refused c =
     let r = c.read-answer in
     let x = c.args.input.now in
-    begun_refused x _ c.refused.new.1.1.0 _ _ _ c.refused.result
+    begun_refused x _ c.refused.new.text _ _ _ c.refused.result
     (sym c.in-Refused.is ∙ r.ensures.0 ∙ ap (λ (w : ℕ). answer_of (outcome_of x w)) c.requires.0)
     c.number-number.ensures.0 c.refused.ensures
 
@@ -52,5 +52,5 @@ returns-in-Graph c =
     let q = r.ensures.1 ∙ ap (λ (w : ℕ). words_after (outcome_of x w) c.args.words.now) c.requires.0 in
     let s = c.start in
     let l = length-take-le k.result c.args.table.now (omega (arith, k.ensures.1, c.requires.1)) in
-    begun_graph x _ _ e c.args.words.now r.new.1.0 s.new.1.1.1.0 (drop k.result c.args.table.now) s.new.1.1.1.1.0 s.result q
-    (rw k.ensures.0 at s.ensures) (s.auto.1.1.1.0 ∙ l ∙ k.ensures.0)
+    begun_graph x _ _ e c.args.words.now r.new.words s.new.table (drop k.result c.args.table.now) s.new.text s.result q
+    (rw k.ensures.0 at s.ensures) (s.auto.table ∙ l ∙ k.ensures.0)

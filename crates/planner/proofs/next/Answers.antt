@@ -11,14 +11,14 @@ pub slice_bounds-tell-end : goal.slice_bounds-tell-end
 slice_bounds-tell-end c =
     let a = c.args in
     let k = c.search-o in
-    (answered a.table.now a.s c.requires.0 a.budget a.list.now (omega (arith, c.requires.2)) (omega (arith, c.requires.3)) k.result _ k.new.1.1.1.1.1.1.0 k.ensures.0 k.ensures.1 c.in-Ran.is).fits
+    (answered a.table.now a.s c.requires.0 a.budget a.list.now (omega (arith, c.requires.2)) (omega (arith, c.requires.3)) k.result _ k.new.list k.ensures.0 k.ensures.1 c.in-Ran.is).fits
 
 pub slice_bounds-tell-end-in-Ran : goal.slice_bounds-tell-end-in-Ran
 slice_bounds-tell-end-in-Ran c =
     let a = c.args in
     let k = c.search-o in
-    let i = answered a.table.now a.s c.requires.0 a.budget a.list.now (omega (arith, c.requires.2)) (omega (arith, c.requires.3)) k.result _ k.new.1.1.1.1.1.1.0 k.ensures.0 k.ensures.1 c.in-Ran.is in
-    sym (length-take-le _ k.new.1.1.1.1.1.1.0 i.fits)
+    let i = answered a.table.now a.s c.requires.0 a.budget a.list.now (omega (arith, c.requires.2)) (omega (arith, c.requires.3)) k.result _ k.new.list k.ensures.0 k.ensures.1 c.in-Ran.is in
+    sym (length-take-le _ k.new.list i.fits)
 
 pub tell-requires : goal.tell-requires
 tell-requires c =
@@ -26,8 +26,8 @@ tell-requires c =
     let k = c.search-o in
     let some : 0 < a.budget = omega (arith, c.requires.2) in
     let room : 0 < length a.list.now = omega (arith, c.requires.3) in
-    let i = answered a.table.now a.s c.requires.0 a.budget a.list.now some room k.result _ k.new.1.1.1.1.1.1.0 k.ensures.0 k.ensures.1 c.in-Ran.is in
-    tellable a.table.now a.s c.requires.0 a.budget a.list.now some room _ _ k.new.1.1.1.1.1.1.0 i a.text.now c.requires.4
+    let i = answered a.table.now a.s c.requires.0 a.budget a.list.now some room k.result _ k.new.list k.ensures.0 k.ensures.1 c.in-Ran.is in
+    tellable a.table.now a.s c.requires.0 a.budget a.list.now some room _ _ k.new.list i a.text.now c.requires.4
 
 pub returns-in-Ran : goal.returns-in-Ran
 returns-in-Ran c =
@@ -35,10 +35,10 @@ returns-in-Ran c =
     let k = c.search-o in
     let some : 0 < a.budget = omega (arith, c.requires.2) in
     let room : 0 < length a.list.now = omega (arith, c.requires.3) in
-    let i = answered a.table.now a.s c.requires.0 a.budget a.list.now some room k.result _ k.new.1.1.1.1.1.1.0 k.ensures.0 k.ensures.1 c.in-Ran.is in
+    let i = answered a.table.now a.s c.requires.0 a.budget a.list.now some room k.result _ k.new.list k.ensures.0 k.ensures.1 c.in-Ran.is in
     let t = c.tell in (
-      went a.table.now a.s c.requires.0 a.budget a.list.now some room _ _ k.new.1.1.1.1.1.1.0 i a.text.now t.new.1.1.1.1.0 t.result t.ensures c.requires.1,
-      stepped a.table.now a.s c.requires.0 a.budget a.list.now some room _ _ k.new.1.1.1.1.1.1.0 i a.text.now t.new.1.1.1.1.0 t.result t.ensures,
+      went a.table.now a.s c.requires.0 a.budget a.list.now some room _ _ k.new.list i a.text.now t.new.text t.result t.ensures c.requires.1,
+      stepped a.table.now a.s c.requires.0 a.budget a.list.now some room _ _ k.new.list i a.text.now t.new.text t.result t.ensures,
     )
 
 pub returns-in-Refused : goal.returns-in-Refused

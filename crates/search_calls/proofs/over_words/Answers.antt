@@ -33,15 +33,15 @@ pub slice_bounds-search_bytes-end-2 : goal.slice_bounds-search_bytes-end-2
 slice_bounds-search_bytes-end-2 c =
     let a = c.args in
     let d = c.decode in
-    sym (ap length (decoded (length a.table.now / 8) a.words.now a.table.now d.new.1.0 c.requires.0 d.ensures) ∙ length_words (length a.table.now / 8) a.table.now)
+    sym (ap length (decoded (length a.table.now / 8) a.words.now a.table.now d.new.out c.requires.0 d.ensures) ∙ length_words (length a.table.now / 8) a.table.now)
 
 pub search_bytes-o-requires : goal.search_bytes-o-requires
-search_bytes-o-requires c = c.read_seconds.auto.1.0 ∙ c.requires.1
+search_bytes-o-requires c = c.read_seconds.auto.s ∙ c.requires.1
 
 pub finish-requires : goal.finish-requires
 finish-requires c =
-    let k = c.search_bytes-o.auto.1.1.1.1.1.0 in
-    let j = c.read_seconds.auto.1.0 in
+    let k = c.search_bytes-o.auto.seconds in
+    let j = c.read_seconds.auto.s in
     (c.requires.2, c.requires.3, omega (arith, k, j, c.requires.1, lent_most c.args.degree))
 
 pub shape_of-words : goal.shape_of-words
@@ -49,8 +49,8 @@ shape_of-words c =
     let a = c.args in
     let k = length a.table.now / 8 in
     let d = c.decode in
-    let x = d.new.1.0 in
-    let e : length x + length (drop k a.words.now) ≡ length a.words.now = omega (arith, length-drop k a.words.now, d.auto.1.0, length-take-le k a.words.now c.requires.0, c.requires.0) in
+    let x = d.new.out in
+    let e : length x + length (drop k a.words.now) ≡ length a.words.now = omega (arith, length-drop k a.words.now, d.auto.out, length-take-le k a.words.now c.requires.0, c.requires.0) in
     length-append x (drop k a.words.now) ∙ e
 
 pub returns : goal.returns
@@ -61,11 +61,11 @@ returns c =
     let r = c.read_seconds in
     let x = c.search_bytes-o in
     let y = c.finish in
-    let s = r.new.1.0 in
-    let t = decoded (length a.table.now / 8) a.words.now a.table.now d.new.1.0 c.requires.0 d.ensures in
+    let s = r.new.s in
+    let t = decoded (length a.table.now / 8) a.words.now a.table.now d.new.out c.requires.0 d.ensures in
     let w : List ℕ → First → Outcome = λ q g. outcome_in (table_with a.degree a.n a.m q) (whole_of a.degree g s) a.budget a.list.now in
     let v : List ℕ → First → List ℕ = λ q g. list_in (table_with a.degree a.n a.m q) (whole_of a.degree g s) a.budget a.list.now in
     writes a.degree a.n a.m _ a.«record».now s (seconds_lent a.degree a.«record».now s (length a.seconds.now) c.requires.1 r.ensures) a.budget a.list.now a.answer.now
-    x.result x.new.1.1.1.1.1.0 _ _ _ _ _ (x.ensures.0 ∙ ap₂ w t f.ensures) (x.ensures.1 ∙ ap₂ v t f.ensures)
+    x.result x.new.seconds _ _ _ _ _ (x.ensures.0 ∙ ap₂ w t f.ensures) (x.ensures.1 ∙ ap₂ v t f.ensures)
     (c.power-end.ensures.0 (omega (arith, c.requires.4))) y.ensures.0 y.ensures.1 y.ensures.2
-    c.requires.2 (slots_long x.result.first _ x.type-inv.1.1.1.0) (x.auto.1.1.1.1.1.0 ∙ r.auto.1.0 ∙ c.requires.1)
+    c.requires.2 (slots_long x.result.first _ x.type-inv.1.1.1.0) (x.auto.seconds ∙ r.auto.s ∙ c.requires.1)

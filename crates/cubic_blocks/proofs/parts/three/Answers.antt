@@ -14,7 +14,7 @@ step0-requires c =
     let q = c.step0-b in
     let n = c.note-a in
     let z = c.requires in
-    record { e_in_bounds = (omega (arith, z.0), omega arith); found_in_bounds = (omega (arith, q.ensures.1, q.auto, n.ensures.1, n.auto, z.1), omega (arith, q.ensures.1, n.ensures.1, z.1), omega (arith, q.ensures.1, n.ensures.1, z.1)) }
+    record { e_in_bounds = (omega (arith, z.p_in_bounds), omega arith); found_in_bounds = (omega (arith, q.ensures.went, q.auto, n.ensures.went, n.auto, z.found_in_bounds), omega (arith, q.ensures.went, n.ensures.went, z.found_in_bounds), omega (arith, q.ensures.went, n.ensures.went, z.found_in_bounds)) }
 
 pub returns : goal.returns
 unfolding three_of

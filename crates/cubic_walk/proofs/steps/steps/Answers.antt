@@ -94,7 +94,7 @@ loop-f-preserved c =
     let h = c.turn-h in
     let m = c.mark-found in
     let T = triple_at a.table.now a.n in
-    let e = step_note T a.n st (headed st v.result.position h.result _) _ _ (h.ensures.0 st refl refl refl refl) m.ensures.0 m.ensures.1.0 in
+    let e = step_note T a.n st (headed st v.result.position h.result _) _ _ (h.ensures.state st refl refl refl refl) m.ensures.count m.ensures.list.0 in
     (l.invariant.0, walked_one 3 (walk_of a.n T) counts 3 (step_near (point_of 3 a.n) T) a.end a.budget l.left _ st _ l.invariant.1 g.goes e)
 
 pub returns : goal.returns
@@ -103,4 +103,4 @@ returns c =
     let a = c.args in
     let w = l.invariant.1 in
     let e = goes_no_more 3 (walk_of a.n (triple_at a.table.now a.n)) counts 3 a.end a.budget l.left (length a.list.now) _ _ _ w refl c.going.ensures c.loop-f-test.false in
-    let all = (e, (record { place = w.sound.place; found = w.sound.found; additions = w.sound.additions }, (omega (arith, w.went, w.less), omega (arith, w.went)))) in record { state = all.0; sane = all.1; less = all.2 }
+    record { state = e; sane = record { place = w.sound.place; found = w.sound.found; additions = w.sound.additions }; less = (omega (arith, w.went, w.less), omega (arith, w.went)) }

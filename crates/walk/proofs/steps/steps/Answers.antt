@@ -92,7 +92,7 @@ loop-f-preserved c =
     let m = c.mark-found in
     let T = product a.table.now a.n in
     let b : v.result.position < length l.slots = omega (arith, g.low, v.ensures.position, c.requires.sized.small, w.size) in
-    let e = step_note a.n T st (headed st v.result.position h.result) _ _ (h.ensures.0 st refl refl refl b) m.ensures.0 m.ensures.1.0 in
+    let e = step_note a.n T st (headed st v.result.position h.result) _ _ (h.ensures.state st refl refl refl b) m.ensures.count m.ensures.list.0 in
     (l.invariant.0, walked_one a.table.now a.n a.end a.budget l.left _ st _ w g e)
 
 pub returns : goal.returns
@@ -101,4 +101,4 @@ returns c =
     let a = c.args in
     let w = l.invariant.1 in
     let e = goes_no_more a.table.now a.n a.end a.budget l.left (length a.list.now) _ _ _ w refl c.going.ensures c.loop-f-test.false in
-    let all = (e, (record { place = w.place; found = w.found; additions = w.additions }, (omega (arith, w.went, w.less), omega (arith, w.went)))) in record { state = all.0; sane = all.1; less = all.2 }
+    record { state = e; sane = record { place = w.place; found = w.found; additions = w.additions }; less = (omega (arith, w.went, w.less), omega (arith, w.went)) }
