@@ -167,7 +167,22 @@ class Turner:
             return self.path(need_place, at, rest)
 
         text = re.sub(r"(?<![\w'.\-₀-₉])(" + WORD + r")((?:\." + WORD + r")*)", lambda m: one(m) if m.group(1) in alias else m.group(0), text)
-        return self.parts(text)
+        return self.parts(self.given(text))
+
+    def given(self, text):
+        """A let of what an arm was given: its parts are fields of the arm."""
+        for i, p in enumerate(self.e["places"]):
+            arm = self.e["arms"][i] if i < len(self.e["arms"]) else None
+            if not arm:
+                continue
+            m = re.search(r"let (" + WORD + r") = c\." + re.escape(p[2][1]) + r"\.given in\s*", text)
+            if not m:
+                continue
+            text = text[: m.start()] + text[m.end():]
+            for new, old, path in sorted(arm[2], key=lambda q: -len(q[2])):
+                if norm(old) == norm(p[2][0]) and path[:1] == ["given"] and len(path) > 1:
+                    text = re.sub(r"(?<![\w'.\-])" + re.escape(".".join([m.group(1)] + path[1:])) + r"(?![\w'.\-]*\d)", ".".join(["c", arm[0], new]), text)
+        return text
 
     def parts(self, text):
         """What was a tuple of arguments or of clauses goes by name, also behind a let of the step or of the requires."""
