@@ -1,0 +1,14 @@
+-- `layouts::main` is safe and ends.
+use mathlib.Core.Path.{sym, ap}
+use lib.Seq.{length-take-le}
+use Rattle.streams.specs.Counts.{bytes_of}
+use Rattle.layouts.proofs.main.Goals as goal
+
+pub slice_bounds-buf-end : goal.slice_bounds-buf-end
+slice_bounds-buf-end c = rw (sym (ap bytes_of c.in-Bytes.is)) c.receive.ensures
+
+pub slice_bounds-run-end : goal.slice_bounds-run-end
+slice_bounds-run-end c = sym (length-take-le _ c.receive.new.buf (rw (sym (ap bytes_of c.in-Bytes.is)) c.receive.ensures))
+
+pub slice_bounds-tell-end : goal.slice_bounds-tell-end
+slice_bounds-tell-end c = sym (length-take-le c.run-ending.result.told c.run-ending.new.list c.run-ending.ensures.fits)
