@@ -9,6 +9,7 @@ ghost use Rattle.driving.specs.Driving.{text_bytes, Drives};
 
 use planner::Session;
 use progress::Screen;
+use streams::Output;
 
 // At most so many points a call, so that progress shows: 2^26.
 const BUDGET: u64 = 67108864;
@@ -26,6 +27,7 @@ pub struct Driven {
 // The calls after the first text, each written before the next; so many bytes were taken before them.
 pub fn drive(
     rt: &HostRuntime,
+    out: &mut Output,
     begun: Session,
     table: &[u64],
     list: &mut [u64],
@@ -39,13 +41,12 @@ pub fn drive(
     let mut s = begun;
     let mut sent = first;
     let mut shown = false;
-    let mut out = rt.stdout();
     while s.open {
         let before = s.points;
         s = planner::next(s, table, BUDGET, list, text);
         let used = s.used;
         shown = progress::make_room(rt, screen, shown, used);
-        let got = streams::send(&mut out, &text[..used]);
+        let got = streams::send(out, &text[..used]);
         sent += got as u64;
         if got < used {
             return Driven {

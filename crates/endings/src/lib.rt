@@ -4,6 +4,8 @@
 ghost use Rattle.std.specs.Prelude.{length};
 ghost use Rattle.endings.specs.Endings.{Concludes, Delivers};
 
+use streams::Output;
+
 // How many bytes are to be told, how many bytes of the output were taken, and whether closing it went well.
 #[derive(Drop)]
 pub struct Ending {
@@ -28,11 +30,10 @@ pub fn concluded(rt: &HostRuntime, told: usize, sent: u64) -> Ending
 }
 
 // The whole output in one text, and its end.
-pub fn deliver(rt: &HostRuntime, output: &[u8], told: usize) -> Ending
+pub fn deliver(rt: &HostRuntime, out: &mut Output, output: &[u8], told: usize) -> Ending
     ensures { Delivers told (length output.now) result }
 {
-    let mut out = rt.stdout();
-    let got = streams::send(&mut out, output);
+    let got = streams::send(out, output);
     let sent = got as u64;
     if got < output.len() {
         return Ending {

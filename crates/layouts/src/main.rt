@@ -5,32 +5,47 @@
 
 use refusals::{MOST_WORDS, PIECE_ENTRIES};
 use sending::TEXT_BYTES;
-use streams::Input;
+use std::process::ExitCode;
+use streams::{Input, Output, READER_GONE};
 
-// What is to be told, or words where there is nothing.
-fn tell(rt: &HostRuntime, line: &[u8]) {
-    if line.len() == 0 {
-        streams::say(rt, b"layouts: standard output could not be written\n");
-        return;
+// What is to be told, or words where there is nothing; and nothing at all where the reader is gone, who knows.
+fn tell(rt: &HostRuntime, out: &Output, line: &[u8]) -> ExitCode {
+    if line.len() != 0 {
+        streams::tell(line);
+        return ExitCode::SUCCESS;
     }
-    streams::tell(line);
+    if out.gone {
+        return ExitCode::from(READER_GONE);
+    }
+    streams::say(rt, b"layouts: standard output could not be written\n");
+    ExitCode::SUCCESS
 }
 
-fn main(rt: HostRuntime) {
+fn main(rt: HostRuntime) -> ExitCode {
     let mut buf = [0u8; 32769];
     let mut words = [0u64; MOST_WORDS];
     let mut table = [0u64; MOST_WORDS];
     let mut list = [0u64; PIECE_ENTRIES];
     let mut text = [0u8; TEXT_BYTES];
     let mut from = rt.stdin();
+    let mut out = Output::new(&rt);
     match streams::receive(&mut from, &mut buf) {
         Input::Failed => {
             streams::say(&rt, b"layouts: standard input could not be read\n");
+            ExitCode::SUCCESS
         }
         Input::Bytes(k) => {
-            let ending = sending::run(&rt, &buf[..k], &mut words, &mut table, &mut list, &mut text);
+            let ending = sending::run(
+                &rt,
+                &mut out,
+                &buf[..k],
+                &mut words,
+                &mut table,
+                &mut list,
+                &mut text,
+            );
             let told = ending.told;
-            tell(&rt, &text[..told]);
+            tell(&rt, &out, &text[..told])
         }
     }
 }

@@ -16,7 +16,7 @@ pub struct Screen {
 
 // Whether standard output is known, and is neither a pipe nor a socket, which someone else reads at the other end.
 fn unread(rt: &HostRuntime) -> bool {
-    match fs::metadata(rt, streams::OUTPUT) {
+    match fs::metadata(rt, streams::OUTPUT_PATH) {
         Ok(output) => {
             let kind = output.file_type();
             !kind.is_fifo() && !kind.is_socket()

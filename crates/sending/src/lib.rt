@@ -13,6 +13,7 @@ ghost use Rattle.sending.specs.Ending.{Walks, Ends};
 use driving::drive;
 use endings::Ending;
 use planner::Session;
+use streams::Output;
 
 // The bytes of the text that is lent to each call.
 pub const TEXT_BYTES: usize = 65536;
@@ -20,6 +21,7 @@ pub const TEXT_BYTES: usize = 65536;
 // The walk of a graph that was read, and its end; so many bytes were taken before it.
 fn walk_graph(
     rt: &HostRuntime,
+    out: &mut Output,
     s: Session,
     table: &[u64],
     list: &mut [u64],
@@ -30,7 +32,7 @@ fn walk_graph(
     ensures { Walks table.now s first text.new result }
 {
     let screen = progress::look(rt);
-    let d = drive(rt, s, table, list, text, first, screen);
+    let d = drive(rt, out, s, table, list, text, first, screen);
     progress::clear(rt, screen);
     if !d.all {
         return Ending {
@@ -47,6 +49,7 @@ fn walk_graph(
 // The whole output for an input, and its end.
 pub fn run(
     rt: &HostRuntime,
+    out: &mut Output,
     input: &[u8],
     words: &mut [u64],
     table: &mut [u64],
@@ -58,8 +61,7 @@ pub fn run(
 {
     let s = planner::begin(input, words, table, text);
     let used = s.used;
-    let mut out = rt.stdout();
-    let got = streams::send(&mut out, &text[..used]);
+    let got = streams::send(out, &text[..used]);
     let first = got as u64;
     if got < used {
         return Ending {
@@ -72,5 +74,5 @@ pub fn run(
         return endings::concluded(rt, used, first);
     }
     let size = tables::words(s.n);
-    walk_graph(rt, s, &table[..size], list, text, first)
+    walk_graph(rt, out, s, &table[..size], list, text, first)
 }

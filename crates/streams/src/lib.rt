@@ -6,7 +6,7 @@ ghost use Rattle.std.specs.Prelude.{◌≤◌, ◌<◌, length};
 ghost use Rattle.streams.specs.Counts.{bytes_of};
 
 use std::fs::{OpenFile, OpenOptions};
-use std::io::{ErrorKind, Read, Write};
+use std::io::{ErrorKind, Read, Stdout, Write};
 use std::rt::Files;
 use std::{fs, thread};
 
@@ -14,10 +14,47 @@ use std::{fs, thread};
 pub const TOLD: i32 = 3;
 
 // Standard output by name.
-pub const OUTPUT: &str = "/proc/self/fd/1";
+pub const OUTPUT_PATH: &str = "/proc/self/fd/1";
+
+// The exit status of a program whose reader went away. It is that by which a shell tells of a program that SIGPIPE ended; here the signal
+// ends nothing, and the write fails.
+pub const READER_GONE: u8 = 141;
 
 // So often a call is tried again, 2^62: no machine lasts so long, and so each function ends.
 const TRIES: u64 = 4611686018427387904;
+
+// Standard output, and whether a write found that nobody reads it any more.
+#[derive(Drop)]
+pub struct Output {
+    to: Stdout,
+    pub gone: bool,
+}
+
+impl Write for Output {
+    fn write(&mut self, buf: &[u8]) -> std::io::Result<usize> {
+        match self.to.write(buf) {
+            Ok(taken) => Ok(taken),
+            Err(e) => {
+                self.gone = e.kind() == ErrorKind::BrokenPipe;
+                Err(e)
+            }
+        }
+    }
+
+    fn flush(&mut self) -> std::io::Result<()> {
+        self.to.flush()
+    }
+}
+
+impl Output {
+    // To which nothing was written yet.
+    pub fn new(rt: &HostRuntime) -> Output {
+        Output {
+            to: rt.stdout(),
+            gone: false,
+        }
+    }
+}
 
 // What a reader gave: so many bytes, or a read that failed.
 #[derive(Drop)]
@@ -115,7 +152,7 @@ fn unasked(why: ErrorKind) -> bool {
 
 // Whether everything that was written to a file is still well.
 fn kept<R: Files>(rt: &R) -> bool {
-    match OpenOptions::new().append(true).open(rt, OUTPUT) {
+    match OpenOptions::new().append(true).open(rt, OUTPUT_PATH) {
         Ok(file) => match file.sync_data() {
             Ok(()) => true,
             Err(e) => unasked(e.kind()),
@@ -127,7 +164,7 @@ fn kept<R: Files>(rt: &R) -> bool {
 // At the end of standard output: whether everything that was written to it is still well, as far as it can be asked, which is where it
 // is a file. Either answer may come, so that there is nothing to ensure.
 pub fn finish<R: Files>(rt: &R) -> bool {
-    match fs::metadata(rt, OUTPUT) {
+    match fs::metadata(rt, OUTPUT_PATH) {
         Ok(output) => !output.is_file() || kept(rt),
         Err(_) => true,
     }

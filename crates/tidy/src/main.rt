@@ -9,7 +9,8 @@ ghost use Rattle.tidy.specs.Output.{Runs};
 
 use endings::Ending;
 use exchange::TidyAnswer;
-use streams::Input;
+use std::process::ExitCode;
+use streams::{Input, Output, READER_GONE};
 
 // The bytes of the output: as many as the longest text has.
 const OUT_BYTES: usize = 525;
@@ -25,7 +26,7 @@ struct Ran {
 }
 
 // The whole output for an input, and its end.
-fn run(rt: &HostRuntime, input: &[u8], out: &mut [u8], text: &mut [u8]) -> Ran
+fn run(rt: &HostRuntime, to: &mut Output, input: &[u8], out: &mut [u8], text: &mut [u8]) -> Ran
     requires { (length out.old ≡ tidy_most) × (length text.old ≡ 64) }
     ensures { Runs input.now text.new result }
 {
@@ -34,13 +35,13 @@ fn run(rt: &HostRuntime, input: &[u8], out: &mut [u8], text: &mut [u8]) -> Ran
         TidyAnswer::Tidied { bytes, .. } => {
             let used = bytes as usize;
             let told = texts::put(text, 0, b"ended\n");
-            let ending = endings::deliver(rt, &out[..used], told);
+            let ending = endings::deliver(rt, to, &out[..used], told);
             Ran { ending, answer }
         }
         TidyAnswer::Refused { why, line } => {
             let number = refusals::number(why);
             let told = texts::put_refusal(text, number, line);
-            let ending = endings::deliver(rt, &text[..told], told);
+            let ending = endings::deliver(rt, to, &text[..told], told);
             Ran { ending, answer }
         }
     }
@@ -84,31 +85,37 @@ fn say_counts(rt: &HostRuntime, answer: TidyAnswer) {
     }
 }
 
-// What is to be told, or words where there is nothing.
-fn tell(rt: &HostRuntime, line: &[u8], answer: TidyAnswer) {
-    if line.len() == 0 {
-        streams::say(rt, b"tidy: standard output could not be written\n");
-        return;
+// What is to be told, or words where there is nothing; and nothing at all where the reader is gone, who knows.
+fn tell(rt: &HostRuntime, to: &Output, line: &[u8], answer: TidyAnswer) -> ExitCode {
+    if line.len() != 0 {
+        streams::tell(line);
+        say_counts(rt, answer);
+        return ExitCode::SUCCESS;
     }
-    streams::tell(line);
-    say_counts(rt, answer);
+    if to.gone {
+        return ExitCode::from(READER_GONE);
+    }
+    streams::say(rt, b"tidy: standard output could not be written\n");
+    ExitCode::SUCCESS
 }
 
-fn main(rt: HostRuntime) {
+fn main(rt: HostRuntime) -> ExitCode {
     let mut buf = [0u8; 32769];
     let mut out = [0u8; OUT_BYTES];
     let mut text = [0u8; TEXT_BYTES];
     let mut from = rt.stdin();
+    let mut to = Output::new(&rt);
     match streams::receive(&mut from, &mut buf) {
         Input::Failed => {
             streams::say(&rt, b"tidy: standard input could not be read\n");
+            ExitCode::SUCCESS
         }
         Input::Bytes(k) => {
-            let r = run(&rt, &buf[..k], &mut out, &mut text);
+            let r = run(&rt, &mut to, &buf[..k], &mut out, &mut text);
             let ending = r.ending;
             let answer = r.answer;
             let told = ending.told;
-            tell(&rt, &text[..told], answer);
+            tell(&rt, &to, &text[..told], answer)
         }
     }
 }

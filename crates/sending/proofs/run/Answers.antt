@@ -31,8 +31,7 @@ slice_bounds-walk_graph-end-2 c =
 
 pub walk_graph-requires : goal.walk_graph-requires
 walk_graph-requires c =
-    let b = c.begin-s in
-    (
+    let b = c.begin-s in (
       rw c.words-size.ensures.0 (b.ensures.standing (not-false _ c.if-not-s.false)),
       omega (arith, c.requires.2),
       omega (arith, c.requires.2, c.requires.3, b.auto.text),
