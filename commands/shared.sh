@@ -18,7 +18,7 @@ ended() { [[ $# == 1 && $1 == ended ]]; }
 wrong() { :; }
 . "$home/commands/$2.sh" || exit 1
 shift 2
-program=$home/target/bin/$name
+program=$home/crates/$name/out/$name # where 'rt run' leaves it
 place=$home/target/commands # the lock and the logs of builds
 
 # ---- words
@@ -56,7 +56,7 @@ duration() { if (($1 < 60)); then echo "$1 s"; else echo "$(($1 / 60)) min $(($1
 # Whether anything that the program is made of is newer than it, or it isn't there.
 outdated() {
     [[ ! -x $program ]] ||
-        [[ -n $(find "$home/crates.txt" "$home/crates" -name must-fail -prune -o -newer "$program" -print -quit 2>/dev/null) ]]
+        [[ -n $(find "$home/crates.txt" "$home/crates/"*/{src,specs,proofs} -newer "$program" -print -quit 2>/dev/null) ]]
 }
 
 # How many crates the program is made of.
@@ -96,7 +96,7 @@ watch_build() { # LOG
     while kill -0 "$builder" 2>/dev/null; do
         kill -0 "$$" 2>/dev/null || { end_build && exit 1; } # nobody waits any more
         if [[ -t 2 ]]; then
-            mapfile -t proved < <(sed -n 's/^rt: \([a-z0-9_]*\) proved.*/\1/p' "$1")
+            mapfile -t proved < <(sed -n 's/^crate \([a-z0-9_]*\): modules.*/\1/p' "$1")
             printf '\r%s: building, which proves the program first: crate %d of %d%s, %s so far\e[K' "$name" \
                 "${#proved[@]}" "$total" "${proved[*]:+, ${proved[-1]}}" "$(duration $((SECONDS - began)))" >&2 2>/dev/null
         fi
@@ -124,15 +124,15 @@ build() {
     trap 'end_build; exit 1' USR1 HUP TERM
     take_lock
     if outdated; then
-        # rt also runs what it built, as nobody, who has to reach this folder
+        # rt also runs what it built, on an empty text
         room=$(mktemp -d /tmp/vayudrit.XXXXXX) || die "there is no room in /tmp"
-        chmod 711 "$room"
         : >"$room/began"
-        (exec {back}>&- && cd "$home" && TMPDIR=$room exec setsid rt check "$name") </dev/null >"$log" 2>&1 &
+        (exec {back}>&- && cd "$home/crates/$name" && TMPDIR=$room exec setsid rt run) </dev/null >"$log" 2>&1 &
         builder=$!
         watch_build "$log"
-        wait "$builder" || { end_build; die "the program could not be built: 'rt check $name' failed; the log is $log"; }
-        [[ -x $program ]] || { end_build; die "'rt check $name' left no program; remove the folder target and try again"; }
+        wait "$builder" || { end_build; die "the program could not be built: 'rt run' in crates/$name failed; the log is $log"; }
+        [[ -x $program ]] || { end_build; die "'rt run' in crates/$name left no program; remove the folder crates/$name/out and try again"; }
+        rt version >"$place/$name.kit" 2>/dev/null
         touch -r "$room/began" "$program" # also when rt saw that nothing had really changed
         end_build
     fi
@@ -148,12 +148,10 @@ commit() {
 
 # The commit or release of the sources, and the kit that proved the program.
 version() {
-    local source sum kit built='the program is not built yet, or older than its sources'
+    local source kit built='the program is not built yet, or older than its sources'
     source=$(commit 2>/dev/null) ||
         source=$(grep -v Format "$home/commands/release" 2>/dev/null) || source='of no known commit'
-    sum=$(sed -n 's/^logic=proved .*sum=\([0-9a-f]*\).*/\1/p' "$home/target/log/$name.say" 2>/dev/null)
-    kit=$(rt version 2>/dev/null) || kit=
-    [[ -n $sum && $kit == *"$sum" ]] || kit="a kit with logic $sum"
+    kit=$(grep . "$place/$name.kit" 2>/dev/null) || kit='a kit of no known logic'
     outdated || built="the program was proved by $kit"
     printf '%s, Vayudrit %s\n%s\n' "$name" "$source" "$built"
 }
@@ -251,16 +249,21 @@ judge() { # STATUS LINES
         ((BASH_REMATCH[2] == 0)) || where="line ${BASH_REMATCH[2]}: "
         say "refused: $where$(meaning "${BASH_REMATCH[1]}" "${BASH_REMATCH[2]}") (${BASH_REMATCH[1]})"
         exit 77
-    elif [[ ${1-} != said ]] && ((status != 141)); then # after SIGPIPE the reader knows
+    elif [[ ${1-} != said ]] && ((status != 141 || deaf)); then # where the reader is gone, it knows, unless SIGPIPE is ignored
         wipe
-        ((status <= 128)) || say "the program was ended by signal $((status - 128))"
+        case $status in
+        141) say "standard output could not be written" ;;
+        *) ((status <= 128)) || say "the program was ended by signal $((status - 128))" ;;
+        esac
         say "the run did not end; its output is not whole"
     fi
     exit 1
 }
 
 run_command() {
-    local in out back told line lines=() status input=1 output=1
+    local in out back told line lines=() status input=1 output=1 key value deaf=0
+    # whether the caller has SIGPIPE ignored: in the program it always is
+    while read -r key value; do [[ $key != SigIgn: ]] || deaf=$((16#$value >> 12 & 1)); done <"/proc/$$/status"
     # a descriptor that is closed must not become that of another file
     [[ -e /dev/fd/0 ]] || { input=0 && exec </dev/null; }
     [[ -e /dev/fd/1 ]] || { output=0 && exec >/dev/null; }

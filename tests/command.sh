@@ -32,14 +32,14 @@ gives() {
 # copy_of NAME: the command in the folder `copy`, where its program is another one
 copy_of() {
     command=$1 copy=$out/copy
-    mkdir -p "$copy/target/bin" "$copy/crates/$command/src"
+    mkdir -p "$copy/crates/$command"/{src,out}
     cp -r "$command" commands "$copy"
     printf 'base:\n%s: base io\nother: base\n' "$command" >"$copy/crates.txt"
 }
 # with_program STATUS WORDS LINES: what the copy gives with a program that is these lines of shell
 with_program() {
-    printf '#!/bin/sh\n%s\n' "$3" >"$copy/target/bin/$command"
-    chmod +x "$copy/target/bin/$command"
+    printf '#!/bin/sh\n%s\n' "$3" >"$copy/crates/$command/out/$command"
+    chmod +x "$copy/crates/$command/out/$command"
     gives "$1" "$2" "$copy/$command" examples/triangle.col
 }
 

@@ -7,7 +7,7 @@ cd "$(dirname "$0")/.."
 seed=${SEED:-1} texts=${TEXTS:-612}
 . tests/command.sh
 
-# The first run builds the program, which rt then runs as nobody in the usual temporary folder.
+# The first run builds the program, which rt then runs.
 ./layouts examples/triangle.col >"$out/stdout"
 export TMPDIR=$out/tmp # where nothing may be left
 
@@ -51,7 +51,7 @@ gives 1 'could not be read' from examples # a folder can be opened and not be re
 closed_input() { ./layouts "$@" <&-; }
 gives 1 'standard input is closed' closed_input
 gives 0 '' closed_input examples/full4.col
-program_closed_input() { target/bin/layouts <&-; }
+program_closed_input() { crates/layouts/out/layouts <&-; }
 gives 0 . program_closed_input # in words: the program has no exit status
 [[ ! -s $out/stdout ]] || fail "a closed input: $(head -n 1 "$out/stdout")"
 gives 2 'refused: there is no p line (11)' from /dev/null
@@ -116,12 +116,12 @@ none_free() { ./layouts examples/triangle.col 3<&0 4<&0 5<&0 6<&0 7<&0 8<&0 9<&0
 gives 1 'descriptors 3 to 9' none_free
 all_closed() { ./layouts examples/triangle.col <&- >&- 2>&-; }
 gives 1 '' all_closed
-program_full() { target/bin/layouts <examples/triangle.col >/dev/full 3>"$out/told"; }
+program_full() { crates/layouts/out/layouts <examples/triangle.col >/dev/full 3>"$out/told"; }
 gives 0 . program_full
 [[ ! -s $out/told ]] || fail 'something is told of an output that was not taken'
 # What no contract can say: to which descriptors the program writes. Told is the output without its layouts.
 for file in examples/*.col; do
-    target/bin/layouts <"$file" >"$out/stdout" 2>"$out/stderr" 3>"$out/told"
+    crates/layouts/out/layouts <"$file" >"$out/stdout" 2>"$out/stderr" 3>"$out/told"
     cmp "$out/stdout" "${file%.col}.out" || fail "$file: another output of the program"
     [[ $(cat "$out/told") == "$(grep -v '^[0-9]' "$out/stdout")" && ! -s $out/stderr ]] || fail "$file: told is $(cat "$out/told")"
 done
@@ -151,7 +151,7 @@ for ignored in 0 1; do
     ((ignored == 0)) || words='could not be written'
     for bytes in 1 13 5000 1000000; do gives 1 "$words" slow "$bytes" "$ignored"; done # closed after so many bytes
 done
-slow_program() { "$out/slow-reader" 0 0 target/bin/layouts <"$out/long" 3>"$out/told"; } # the program itself, too
+slow_program() { "$out/slow-reader" 0 0 crates/layouts/out/layouts <"$out/long" 3>"$out/told"; } # the program itself, too
 gives 0 '' slow_program
 cmp "$out/stdout" "$out/whole" || fail 'a pipe that does not wait: another output of the program'
 # The command waits without work: two seconds for its input or its reader, with pipes that do not wait.
@@ -178,7 +178,7 @@ on_terminal() { # standard error is a terminal, whose contents are kept
 gives 0 '' on_terminal
 [[ $(cat "$out/terminal") == $'\rpoints 43046721 of 43046721 found 0\r\e[K' ]] || fail "progress: $(cat -v "$out/terminal")"
 [[ $(cat "$out/written") == $'vars 16 eqs 6\npoints 43046721 additions 86093424 found 0 ended' ]] || fail 'the output beside progress'
-target/bin/layouts <"$out/text" 2>"$out/stderr" >"$out/stdout"
+crates/layouts/out/layouts <"$out/text" 2>"$out/stderr" >"$out/stdout"
 [[ ! -s $out/stderr ]] || fail 'progress without a terminal'
 in_pipe() { command script -qec "./layouts '$out/text' | cat" /dev/null </dev/null >"$out/terminal"; }
 gives 0 '' in_pipe # whoever reads the pipe may write on the terminal, too
@@ -323,14 +323,15 @@ clean
 mkdir "$copy/path"
 cat >"$copy/path/rt" <<'END'
 #!/bin/sh
-[ "$1" = check ] || exit 2
-echo "rt $*" >>built && cat
-[ ! -e fail ] || { echo the reason; exit 1; }
-echo $$ >running && sh -c 'echo $$ >>running; exec sleep "$0"' "$(cat slow 2>/dev/null || echo 0)"
+[ "$1" = run ] || exit 2
+top=../..
+echo "rt $*" >>$top/built && cat
+[ ! -e $top/fail ] || { echo the reason; exit 1; }
+echo $$ >$top/running && sh -c 'echo $$ >>../../running; exec sleep "$0"' "$(cat $top/slow 2>/dev/null || echo 0)"
 mktemp >/dev/null
-echo 'rt: base proved (1 s)'
-printf '#!/bin/sh\necho %s; echo vars 7 eqs 7 >&3; echo %s >&3\n' "'points 1 additions 0 found 0 ended'" "'points 1 additions 0 found 0 ended'" >target/bin/layouts
-chmod +x target/bin/layouts
+echo 'crate base: modules loaded=1 checked=1'
+printf '#!/bin/sh\necho %s; echo vars 7 eqs 7 >&3; echo %s >&3\n' "'points 1 additions 0 found 0 ended'" "'points 1 additions 0 found 0 ended'" >out/layouts
+chmod +x out/layouts
 END
 chmod +x "$copy/path/rt"
 with_rt() { PATH=$copy/path:$PATH "$copy/layouts" <examples/triangle.col; }
@@ -338,7 +339,7 @@ mkdir "$out/tools"
 for tool in bash env setpriv dirname readlink mktemp find rm cat; do ln -s "$(command -v "$tool")" "$out/tools"; done
 without_rt() { PATH=$out/tools "$copy/layouts" <examples/triangle.col; }
 times_built() { [[ $(wc -l <"$copy/built") -eq $1 ]] || fail "built $(wc -l <"$copy/built") times and not $1: $2"; }
-rm "$copy/target/bin/layouts"
+rm "$copy/crates/layouts/out/layouts"
 gives 1 "'rt', which builds it, is not on the path" without_rt
 gives 0 'proves its 2 crates first' with_rt
 [[ $(wc -l <"$out/stderr") -eq 1 ]] || fail "a build says more than a line: $(cat "$out/stderr")"
@@ -348,7 +349,7 @@ times_built 1 'nothing is newer'
 touch -d '+1 hour' "$copy/crates/layouts/src/main.rt"
 gives 1 'older than its sources' without_rt
 touch "$copy/fail"
-gives 1 "'rt check layouts' failed; the log is .*/target/commands/layouts.log" with_rt
+gives 1 "'rt run' in crates/layouts failed; the log is .*/target/commands/layouts.log" with_rt
 grep -q 'the reason' "$copy/target/commands/layouts.log" || fail 'the log of a failed build'
 rm "$copy/fail"
 gives 0 'building' with_rt
@@ -358,7 +359,7 @@ gives 0 '' with_rt
 times_built 3 'nothing is newer'
 
 # Two at once: one builds, the other waits for it.
-rm "$copy/target/bin/layouts" "$copy/running" && echo 1 >"$copy/slow"
+rm "$copy/crates/layouts/out/layouts" "$copy/running" && echo 1 >"$copy/slow"
 with_rt >"$out/one" 2>"$out/words" &
 until_true test -s "$copy/running"
 gives 0 'another command is building' with_rt
@@ -368,7 +369,7 @@ times_built 4 'two builds at once'
 
 # A signal during a build ends it with all its processes, and leaves nothing in the temporary folder.
 killed_build() {
-    rm -f "$copy/target/bin/layouts" "$copy/running" && echo 30 >"$copy/slow"
+    rm -f "$copy/crates/layouts/out/layouts" "$copy/running" && echo 30 >"$copy/slow"
     PATH=$copy/path:$PATH env --default-signal=HUP,INT,TERM "$copy/layouts" <examples/triangle.col >"$out/part" 2>/dev/null &
     until_true has_lines 2 "$copy/running"
     whom=$!
@@ -380,12 +381,12 @@ for signal in HUP/129/script INT/130/script USR1/138/script TERM/143/script KILL
     IFS=/ read -r signal status whom <<<"$signal"
     gives "$status" '' killed_build "$signal" "$whom"
     while read -r process; do until_true gone "$process" || fail 'a process of the build runs on'; done <"$copy/running"
-    [[ ! -s $out/part && ! -e $copy/target/bin/layouts ]] || fail 'something is written after the signal'
+    [[ ! -s $out/part && ! -e $copy/crates/layouts/out/layouts ]] || fail 'something is written after the signal'
     until_true is_clean || clean # a shell that was killed waits for nothing
 done
 rm "$copy/slow"
 gives 0 'building' with_rt # the lock is free again
-on_a_terminal() { rm "$copy/target/bin/layouts" && PATH=$copy/path:$PATH command script -qec "$copy/layouts examples/triangle.col" /dev/null </dev/null >"$out/terminal"; }
+on_a_terminal() { rm "$copy/crates/layouts/out/layouts" && PATH=$copy/path:$PATH command script -qec "$copy/layouts examples/triangle.col" /dev/null </dev/null >"$out/terminal"; }
 gives 0 '' on_a_terminal
 grep -q 'crate [01] of 2\(, base\)\?, 0 s so far' "$out/terminal" || fail "the line of a build: $(cat -v "$out/terminal")"
 
@@ -414,7 +415,7 @@ agrees() {
         return 1
     done
 }
-agrees target/bin/layouts >&2 || fail 'the program and the second program differ'
+agrees crates/layouts/out/layouts >&2 || fail 'the program and the second program differ'
 passed
 for ((k = 1; k <= texts && k <= 30; k++)); do # the script too: the same bytes, and the status for them
     wanted=$(($(grep -c '^refused' "$out/expected/$k" || true) * 2))

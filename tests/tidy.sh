@@ -7,7 +7,7 @@ cd "$(dirname "$0")/.."
 seed=${SEED:-1} texts=${TEXTS:-600}
 . tests/command.sh
 
-# The first run builds the program, which rt then runs as nobody in the usual temporary folder.
+# The first run builds the program, which rt then runs.
 ./tidy examples/triangle.col >"$out/stdout" 2>"$out/stderr" || fail "the first run: $(cat "$out/stderr")"
 export TMPDIR=$out/tmp # where nothing may be left
 
@@ -77,12 +77,12 @@ for how in silent full_words broken_words; do
     gives 0 '' "$how"
     cmp "$out/stdout" examples/sites.tidy || fail "$how: another output"
 done
-program_full() { target/bin/tidy <examples/sites.col >/dev/full 3>"$out/told"; }
+program_full() { crates/tidy/out/tidy <examples/sites.col >/dev/full 3>"$out/told"; }
 gives 0 'could not be written' program_full # in words: the program has no exit status
 [[ ! -s $out/told ]] || fail 'something is told of an output that was not taken'
 # What no contract can say: to which descriptors the program writes.
 for file in examples/*.col; do
-    target/bin/tidy <"$file" >"$out/stdout" 2>"$out/stderr" 3>"$out/told"
+    crates/tidy/out/tidy <"$file" >"$out/stdout" 2>"$out/stderr" 3>"$out/told"
     told=$(head -n 1 "$out/stdout")
     if [[ $told == refused* ]]; then [[ ! -s $out/stderr ]] || fail "$file: words of the program"; else told=ended && grep -q "$had" "$out/stderr"; fi
     [[ $(cat "$out/told") == "$told" ]] || fail "$file: told is $(cat "$out/told")"
@@ -147,7 +147,7 @@ agrees() {
         return 1
     done
 }
-agrees target/bin/tidy >&2 || fail 'the program and the second program differ'
+agrees crates/tidy/out/tidy >&2 || fail 'the program and the second program differ'
 passed
 for ((k = 1; k <= texts && k <= 20; k++)); do # the script too: the same bytes, and the status for them
     wanted=$(($(grep -c '^refused' "$out/expected/$k" || true) * 2))
