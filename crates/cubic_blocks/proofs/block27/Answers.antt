@@ -35,8 +35,10 @@ returns c =
     let q = c.requires.le_b in
     let g = c.head-h in
     let r = c.big-part in
-    λ others hs.
-    block27_is a.table.now a.n a.k a.x r.result others a.seconds.now _ _ a.list.now _ _ a.b a.c c.pair-p.result (positions 3 (3 ^ a.c * a.rest)) g.result k.0 c.pair-p.ensures.0 m.1 q.0 m.3 c.requires.found_in_bounds.0
-    (g.ensures.state (whole a.x others a.seconds.now a.list.now) refl refl refl (get3 a.x.s0 a.x.s1 a.x.s2 others a.b q.0 ∙ hs))
-    (r.ensures.state (set others (a.b - 3) g.result.slot))
-    c.points.ensures
+    record {
+      state = λ others hs.
+          block27_is a.table.now a.n a.k a.x r.result others a.seconds.now _ _ a.list.now _ _ a.b a.c c.pair-p.result (positions 3 (3 ^ a.c * a.rest)) g.result k.0 c.pair-p.ensures.0 m.1 q.0 m.3 c.requires.found_in_bounds.0
+          (g.ensures.state (whole a.x others a.seconds.now a.list.now) refl refl refl (get3 a.x.s0 a.x.s1 a.x.s2 others a.b q.0 ∙ hs))
+          (r.ensures.state (set others (a.b - 3) g.result.slot))
+          c.points.ensures;
+    }

@@ -30,9 +30,12 @@ returns-then-left-eq0 c =
     let a = c.args in
     let E = entry a.table.now in
     let w = l.invariant.2 in
-    let e = g.ensures.went in record { state = (λ rest.
+    let e = g.ensures.went in record {
+      state = (λ rest.
           g.ensures.state rest ∙ sym (rows_none E a.k l.at l.q (whole l.y rest l.seconds l.list))
-          ∙ ap (λ (j : ℕ). rows_of E a.k j l.at l.q (whole l.y rest l.seconds l.list)) (sym c.if-left-eq0.true) ∙ l.invariant.4 rest); went = record { place = omega (arith, c.if-left-eq0); found = omega (arith, c.if-left-eq0); additions = omega (arith, c.if-left-eq0) } }
+          ∙ ap (λ (j : ℕ). rows_of E a.k j l.at l.q (whole l.y rest l.seconds l.list)) (sym c.if-left-eq0.true) ∙ l.invariant.4 rest);
+      went = record { place = omega (arith, c.if-left-eq0); found = omega (arith, c.if-left-eq0); additions = omega (arith, c.if-left-eq0) };
+    }
 
 pub overflow_add-e : goal.overflow_add-e
 overflow_add-e c = let f = c.loop-left.invariant.3 in omega (arith, f.room1, f.pair, c.well_formed.1.0)
