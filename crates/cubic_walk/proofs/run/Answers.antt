@@ -1,6 +1,6 @@
 -- `cubic_walk::run` meets its contract: single places and blocks in turn are one search.
-use mathlib.Core.Path.{refl, ap}
-use Prim.Native.Nat.{◌-◌, ◌<◌}
+use mathlib.Core.Path.{refl}
+use Prim.Native.Nat.{◌<◌}
 use native.Mathlib.Omega.{arith}
 use lib.ListN.{length}
 use Rattle.gray.specs.Numbers.{point_of}

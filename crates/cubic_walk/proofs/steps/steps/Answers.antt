@@ -1,6 +1,5 @@
 -- `cubic_walk::steps::steps` meets its contract: each turn is one place of the search.
 use mathlib.Core.Path.{refl}
-use Prim.Native.Nat.{◌-◌}
 use native.Mathlib.Omega.{arith}
 use lib.ListN.{length}
 use Rattle.gray.specs.Numbers.{point_of}
