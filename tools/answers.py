@@ -166,7 +166,92 @@ class Turner:
                 return m.group(0)
             return self.path(need_place, at, rest)
 
-        return re.sub(r"(?<![\w'.\-₀-₉])(" + WORD + r")((?:\." + WORD + r")*)", lambda m: one(m) if m.group(1) in alias else m.group(0), text)
+        text = re.sub(r"(?<![\w'.\-₀-₉])(" + WORD + r")((?:\." + WORD + r")*)", lambda m: one(m) if m.group(1) in alias else m.group(0), text)
+        return self.parts(text)
+
+    def parts(self, text):
+        """What was a tuple of arguments or of clauses goes by name, also behind a let of the step or of the requires."""
+        steps = {}
+        for i, p in enumerate(self.e["places"]):
+            steps.setdefault("c." + p[2][1], i)
+        heads = {h: h for h in list(steps) + ["c.requires"]}
+        for m in re.finditer(r"let (" + WORD + r")(?: : [^=]*?)? = (c\." + WORD + r") in\b", text):
+            if m.group(2) in heads:
+                heads[m.group(1)] = m.group(2)
+
+        def one(m):
+            head = heads.get(m.group(1))
+            if head is None:
+                return m.group(0)
+            rest = m.group(2).split(".")[1:]
+            if head == "c.requires":
+                if self.e.get("pre") and rest and rest[0].isdigit():
+                    rest = [self.e["pre"]["fields"][int(rest[0])]] + rest[1:]
+            else:
+                i = steps[head]
+                names = self.e["params"].get(self.e["places"][i][3] or "", [])
+                clause = self.e["clauses"][i] if i < len(self.e["clauses"]) else None
+                if len(rest) > 1 and rest[0] in ("new", "auto") and rest[1] in ("0", "1"):
+                    k = 1
+                    while k < len(rest) and rest[k] == "1":
+                        k += 1
+                    if k < len(rest) and rest[k] == "0" and k - 1 < len(names):
+                        rest = [rest[0], names[k - 1]] + rest[k + 1:]
+                    else:
+                        self.left.append(f"{self.where}: {m.group(0)}")
+                elif clause and len(rest) > 1 and rest[0] == "ensures" and rest[1].isdigit():
+                    rest = [rest[0], clause["fields"][int(rest[1])]] + rest[2:]
+            return ".".join([m.group(1)] + rest)
+
+        return re.sub(r"(?<![\w'.\-₀-₉])((?:c\.)?" + WORD + r")((?:\." + WORD + r")+)", one, text)
+
+
+def top_level(text):
+    """Each character of the text with how deep it stands in brackets."""
+    deep = 0
+    for i, ch in enumerate(text):
+        if ch in ")]}":
+            deep -= 1
+        yield i, ch, deep
+        if ch in "([{":
+            deep += 1
+
+
+def by_clause(body, fields):
+    """A body that gave a tuple for several clauses gives a record of them by name."""
+    cut = 0
+    for i, ch, deep in top_level(body):
+        if deep == 0 and ch == "i" and re.match(r"in(?=[\s(])", body[i:]) and (i == 0 or body[i - 1] in " \n"):
+            cut = i + 2
+    head, last = body[:cut], body[cut:]
+    pad = re.match(r"\s*", last).group(0)
+    last = last.strip()
+    if last.startswith("(") and last.endswith(")"):
+        inner, parts, start = last[1:-1], [], 0
+        for i, ch, deep in top_level(inner):
+            if deep < 0:
+                break
+            if deep == 0 and ch == ",":
+                parts.append(inner[start:i].strip())
+                start = i + 1
+        else:
+            if inner[start:].strip():
+                parts.append(inner[start:].strip())
+            while len(parts) < len(fields) and parts and parts[-1].startswith("(") and parts[-1].endswith(")"):
+                more, start = [], 0
+                deepest = parts[-1][1:-1]
+                for i, ch, deep in top_level(deepest):
+                    if deep == 0 and ch == ",":
+                        more.append(deepest[start:i].strip())
+                        start = i + 1
+                if deepest[start:].strip():
+                    more.append(deepest[start:].strip())
+                if len(more) < 2:
+                    break
+                parts = parts[:-1] + more
+            if len(parts) == len(fields):
+                return head + pad + "record { " + "; ".join(f"{f} = {q}" for f, q in zip(fields, parts)) + " }"
+    return head + pad + f"let all = {last} in record {{ " + "; ".join(f"{f} = all.{k}" for k, f in enumerate(fields)) + " }"
 
 
 def convert(folder, names):
@@ -241,6 +326,9 @@ def convert(folder, names):
                 body = f" λ {' '.join(params[1:])}." + body
             place = asked[i][0]
             body = t.body(body, place, params[0])
+            fields = e["asked"].get(old)
+            if fields and len(fields) > 1:
+                body = by_clause(body, fields)
             ans.append("\n".join([f"pub {new} : goal.{new}"] + unf + [f"{new} c ={body}"]))
             continue
         if "tie.close" in whole or "tie.spec" in whole:

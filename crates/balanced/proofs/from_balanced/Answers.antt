@@ -24,7 +24,7 @@ half n w H k e f =
     (omega (arith, power_small n k), f ∙ +ℤ_idr (pos ((w - 1) / 2)) ∙ ap pos h)
 
 pub returns-then-not-unknowns_fit : goal.returns-then-not-unknowns_fit
-returns-then-not-unknowns_fit c = point_meets (verdict.Refused Size) _ _ _ (unknowns_not _ _ (said_no _ c.unknowns_fit.ensures (not-true _ c.if-not-unknowns_fit.true-raw))) refl
+returns-then-not-unknowns_fit c = let all = point_meets (verdict.Refused Size) _ _ _ (unknowns_not _ _ (said_no _ c.unknowns_fit.ensures (not-true _ c.if-not-unknowns_fit.true-raw))) refl in record { answer = all.0; number = all.1 }
 
 pub overflow_sub-power : goal.overflow_sub-power
 overflow_sub-power c =
@@ -55,7 +55,7 @@ returns-then-y-half c =
     let w = c.unknowns_fit.ensures.0 (not-false _ c.if-not-unknowns_fit.false-raw) in
     let g = half a.n _ _ w.most (c.power.ensures.0 (omega (arith, w.most))) c.minus-half.ensures in
     let t = low_test a.y _ (half_of a.n) f g.0 g.1 true c.if-y-half.true in
-    point_meets (verdict.Refused Range) _ _ _ (ends_low a.n a.y w t) refl
+    let all = point_meets (verdict.Refused Range) _ _ _ (ends_low a.n a.y w t) refl in record { answer = all.0; number = all.1 }
 
 pub returns-then-y-half-2 : goal.returns-then-y-half-2
 returns-then-y-half-2 c =
@@ -65,7 +65,7 @@ returns-then-y-half-2 c =
     let g = half a.n _ _ w.most (c.power.ensures.0 (omega (arith, w.most))) c.minus-half.ensures in
     let t = low_test a.y _ (half_of a.n) f g.0 g.1 false c.if-y-half.false in
     let u = high_test a.y _ (half_of a.n) f g.0 g.1 true c.if-y-half-2.true in
-    point_meets (verdict.Refused Range) _ _ _ (ends_high a.n a.y w t u) refl
+    let all = point_meets (verdict.Refused Range) _ _ _ (ends_high a.n a.y w t u) refl in record { answer = all.0; number = all.1 }
 
 pub overflow_add-raised : goal.overflow_add-raised
 overflow_add-raised c =
@@ -102,4 +102,4 @@ returns c =
     let t = low_test a.y _ (half_of a.n) f g.0 g.1 false c.if-y-half.false in
     let u = high_test a.y _ (half_of a.n) f g.0 g.1 false c.if-y-half-2.false in
     let s = sum_number a.y _ (half_of a.n) f g.0 g.1 (raised a.y (half_of a.n) t u) in
-    point_meets verdict.Done _ _ _ (ends_so a.n a.y w t u) (c.turn-point.ensures ∙ ap (turned 2 a.n) s)
+    let all = point_meets verdict.Done _ _ _ (ends_so a.n a.y w t u) (c.turn-point.ensures ∙ ap (turned 2 a.n) s) in record { answer = all.0; number = all.1 }

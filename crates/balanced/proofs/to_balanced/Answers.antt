@@ -33,7 +33,7 @@ minus-number-requires c =
     (turned_word _ _ _ _ d.0.most c.turn-raised.ensures, omega (arith, power_small a.n d.0.most))
 
 pub returns-in-Refused : goal.returns-in-Refused
-returns-in-Refused c = balanced_meets (verdict.Refused _) _ _ _ (sym c.convertible-verdict.ensures ∙ c.in-Refused.is) refl
+returns-in-Refused c = let all = balanced_meets (verdict.Refused _) _ _ _ (sym c.convertible-verdict.ensures ∙ c.in-Refused.is) refl in record { answer = all.0; number = all.1 }
 
 pub returns-in-Done : goal.returns-in-Done
 returns-in-Done c =
@@ -41,7 +41,7 @@ returns-in-Done c =
     let v = sym c.convertible-verdict.ensures ∙ c.in-Done.is in
     let d = done_so a.n a.x.0 v in
     let e = c.power.ensures.0 (omega (arith, d.0.most)) in
-    balanced_meets verdict.Done _ _ _ v
+    let all = balanced_meets verdict.Done _ _ _ v
     (held_minus c.minus-number.result c.turn-raised.result ((c.power.result - 1) / 2)
     (turned_word _ _ _ _ d.0.most c.turn-raised.ensures) (omega (arith, power_small a.n d.0.most)) c.minus-number.ensures
-    ∙ ap₂ (λ (x y : ℕ). pos x -ℤ pos y) c.turn-raised.ensures (half_is a.n _ e) ∙ sym (balanced_is a.n a.x.0))
+    ∙ ap₂ (λ (x y : ℕ). pos x -ℤ pos y) c.turn-raised.ensures (half_is a.n _ e) ∙ sym (balanced_is a.n a.x.0)) in record { answer = all.0; number = all.1 }

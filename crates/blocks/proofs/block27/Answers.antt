@@ -56,7 +56,7 @@ points-requires c =
     let q = c.requires.top_value.1.0 in
     let h : lowest_of 3 a.x.place < a.n = of_lt 3 two a.n a.x.place q.0 (omega (arith, q)) in
     let t : 3 ≤ lowest_of 3 a.x.place = low27 a.x.place q.0 q.1 in
-    (omega arith, z.small, omega (arith, r.ensures.1.found, r.auto, c.requires.top_value.1.1.0))
+    (omega arith, z.small, omega (arith, r.ensures.went.found, r.auto, c.requires.top_value.1.1.0))
 
 pub returns : goal.returns
 returns c =
@@ -71,7 +71,7 @@ returns c =
     let b = a.b in
     let u : 3 ≤ b = omega (arith, q) in
     λ rest hs hl.
-    let m = g.ensures.0 (whole a.x rest l) refl refl (get3 a.x.s0 a.x.s1 a.x.s2 rest b u ∙ hs) (omega arith) in
+    let m = g.ensures.state (whole a.x rest l) refl refl (get3 a.x.s0 a.x.s1 a.x.s2 rest b u ∙ hs) (omega arith) in
     block27_is a.n (product a.table.now a.n) a.x r.result rest l _ _ b g.result q.0 q.1 q.3 c.requires.top_value.1.1.0 m
-    (r.ensures.0 (set rest (b - 3) g.result.slot) ∙ rw (c.entry-t0h.ensures, c.entry-t1h.ensures, c.entry-t2h.ensures, c.requires.top_value.0))
+    (r.ensures.state (set rest (b - 3) g.result.slot) ∙ rw (c.entry-t0h.ensures, c.entry-t1h.ensures, c.entry-t2h.ensures, c.requires.top_value.0))
     c.points.ensures

@@ -8,4 +8,4 @@ pub returns : goal.returns
 returns c =
     let a = c.args in
     let e = c.check_copy.ensures a.table.now refl ∙ copy_self a.n a.m a.table.now in
-    (e, ap code_of e)
+    record { answer = e; number = ap code_of e }

@@ -9,4 +9,4 @@ pub returns : goal.returns
 returns c =
     let a = c.args in
     let e = c.check_copy.ensures a.table.now refl ∙ entries_self (cubic_count a.n) a.n a.m a.table.now in
-    (e, ap code_of e)
+    record { answer = e; number = ap code_of e }

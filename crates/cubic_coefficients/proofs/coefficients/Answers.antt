@@ -23,11 +23,11 @@ returns-in-Done c =
     let e = k.ensures a.coefficients.now refl in
     let d : cubic_copy a.n a.m a.table.now a.coefficients.now ≡ Done = sym e ∙ c.in-Done.is in
     let r = entries_ready (cubic_count a.n) a.n a.m a.table.now a.coefficients.now d in
-    (e, (c.coefficients_into.ensures a.m r.table ∙ sym (ap (λ (v : Verdict). after v a.coefficients.now (cubic_coefficients a.n a.m a.table.now)) d), ap code_of e))
+    record { answer = e; left = c.coefficients_into.ensures a.m r.table ∙ sym (ap (λ (v : Verdict). after v a.coefficients.now (cubic_coefficients a.n a.m a.table.now)) d); number = ap code_of e }
 
 pub returns-in_default : goal.returns-in_default
 returns-in_default c =
     let a = c.args in
     let k = c.check_copy-judged in
     let e = k.ensures a.coefficients.now refl in
-    (e, (sym (ap (λ (v : Verdict). after v a.coefficients.now (cubic_coefficients a.n a.m a.table.now)) (sym e ∙ c.in_default.is)), ap code_of e))
+    record { answer = e; left = sym (ap (λ (v : Verdict). after v a.coefficients.now (cubic_coefficients a.n a.m a.table.now)) (sym e ∙ c.in_default.is)); number = ap code_of e }

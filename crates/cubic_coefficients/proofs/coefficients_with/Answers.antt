@@ -22,28 +22,28 @@ shift-requires c =
     let a = c.args in
     let q = c.requires in
     let n = a.n in
-    (q.0, c.turn_triples.auto.1.0 ∙ q.2, omega (arith, q.1, cubic_count_low n), omega (arith, q.3))
+    (q.0, c.turn_triples.auto.to ∙ q.2, omega (arith, q.1, cubic_count_low n), omega (arith, q.3))
 
 pub slice_bounds-coefficients_into-end : goal.slice_bounds-coefficients_into-end
 slice_bounds-coefficients_into-end c =
     let a = c.args in
     let q = c.requires in
     let n = a.n in
-    omega (arith, q.2, q.3, cubic_count_low n, c.turn_triples.auto.1.0)
+    omega (arith, q.2, q.3, cubic_count_low n, c.turn_triples.auto.to)
 
 pub slice_bounds-coefficients_into-end-2 : goal.slice_bounds-coefficients_into-end-2
 slice_bounds-coefficients_into-end-2 c =
     let a = c.args in
     let q = c.requires in
     let n = a.n in
-    sym (length-take-le (length a.low.now) _ (omega (arith, q.2, q.3, cubic_count_low n, c.turn_triples.auto.1.0)))
+    sym (length-take-le (length a.low.now) _ (omega (arith, q.2, q.3, cubic_count_low n, c.turn_triples.auto.to)))
 
 pub coefficients_into-requires : goal.coefficients_into-requires
 coefficients_into-requires c =
     let a = c.args in
     let q = c.requires in
     let n = a.n in
-    (q.0, c.shift.auto.1.1.0 ∙ q.3, length-take-le (length a.low.now) _ (omega (arith, q.2, q.3, cubic_count_low n, c.turn_triples.auto.1.0)) ∙ q.3)
+    (q.0, c.shift.auto.to ∙ q.3, length-take-le (length a.low.now) _ (omega (arith, q.2, q.3, cubic_count_low n, c.turn_triples.auto.to)) ∙ q.3)
 
 pub returns : goal.returns
 returns c =
@@ -51,8 +51,8 @@ returns c =
     let q = c.requires in
     let n = a.n in
     let f = a.from.now in
-    let t = c.turn_triples.new.1.0 in
-    let x = c.coefficients_into.new.1.0 in
+    let t = c.turn_triples.new.to in
+    let x = c.coefficients_into.new.to in
     λ m w.
     let g = cubic_coefficients n m f in
     let k = cubic_coefficients_table n m f in

@@ -23,11 +23,11 @@ returns-in-Done c =
     let e = k.ensures a.table.now refl in
     let d : cubic_copy a.n a.m a.coefficients.now a.table.now ≡ Done = sym e ∙ c.in-Done.is in
     let r = entries_ready (cubic_count a.n) a.n a.m a.coefficients.now a.table.now d in
-    (e, (c.differences_into.ensures a.m r.table ∙ sym (ap (λ (v : Verdict). after v a.table.now (cubic_differences a.n a.m a.coefficients.now)) d), ap code_of e))
+    record { answer = e; left = c.differences_into.ensures a.m r.table ∙ sym (ap (λ (v : Verdict). after v a.table.now (cubic_differences a.n a.m a.coefficients.now)) d); number = ap code_of e }
 
 pub returns-in_default : goal.returns-in_default
 returns-in_default c =
     let a = c.args in
     let k = c.check_copy-verdict in
     let e = k.ensures a.table.now refl in
-    (e, (sym (ap (λ (v : Verdict). after v a.table.now (cubic_differences a.n a.m a.coefficients.now)) (sym e ∙ c.in_default.is)), ap code_of e))
+    record { answer = e; left = sym (ap (λ (v : Verdict). after v a.table.now (cubic_differences a.n a.m a.coefficients.now)) (sym e ∙ c.in_default.is)); number = ap code_of e }

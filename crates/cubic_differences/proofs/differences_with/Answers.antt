@@ -33,7 +33,7 @@ shift-requires c =
     let a = c.args in
     let q = c.requires in
     let n = a.n in
-    (q.0, q.1, omega (arith, q.3, c.differences_into.auto.1.0), omega (arith, q.2, cubic_count_low n))
+    (q.0, q.1, omega (arith, q.3, c.differences_into.auto.to), omega (arith, q.2, cubic_count_low n))
 
 pub returns : goal.returns
 returns c =

@@ -7,4 +7,4 @@ pub returns : goal.returns
 unfolding entry put_at
 returns c =
     let v = c.plus-u.ensures in
-    ((v.0, v.1), refl)
+    record { sum = (v.0, v.1); seconds = refl }

@@ -11,7 +11,7 @@ use Rattle.cubic_moves.proofs.second.Goals as goal
 
 pub returns-then-rest-eq0 : goal.returns-then-rest-eq0
 unfolding entry
-returns-then-rest-eq0 c = ((λ h. (refl, refl, refl)), ((λ h. absurd (omega (arith, h, c.if-rest-eq0))), omega arith))
+returns-then-rest-eq0 c = record { two = (λ h. (refl, refl, refl)); three = (λ h. absurd (omega (arith, h, c.if-rest-eq0))); count = omega arith }
 
 pub overflow_add-d : goal.overflow_add-d
 overflow_add-d c =
@@ -38,10 +38,4 @@ returns c =
     let a = c.args in
     let u = c.raised.ensures in
     let g = c.split-f.ensures.position in
-    let e : c.pair.result ≡ pair_of a.n a.c (a.c + lowest_of 3 a.rest) = c.pair.ensures.0 ∙ ap (λ (m : ℕ). pair_of a.n a.c (a.c + m)) g in (
-      (λ h. absurd (omega (arith, h, c.if-rest-eq0))),
-      (
-        (λ h. (u.1, u.0.0 ∙ ap (add_of (entry a.seconds.now a.k)) (c.vector-t.ensures ∙ ap (λ (m : ℕ). entry a.table.now (a.kb + m)) e), u.0.1)),
-        omega (arith, u.0.1),
-      ),
-    )
+    let e : c.pair.result ≡ pair_of a.n a.c (a.c + lowest_of 3 a.rest) = c.pair.ensures.0 ∙ ap (λ (m : ℕ). pair_of a.n a.c (a.c + m)) g in record { two = (λ h. absurd (omega (arith, h, c.if-rest-eq0))); three = (λ h. (u.1, u.0.0 ∙ ap (add_of (entry a.seconds.now a.k)) (c.vector-t.ensures ∙ ap (λ (m : ℕ). entry a.table.now (a.kb + m)) e), u.0.1)); count = omega (arith, u.0.1) }

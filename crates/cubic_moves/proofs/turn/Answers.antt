@@ -15,10 +15,7 @@ pub returns-then-rest-eq0 : goal.returns-then-rest-eq0
 returns-then-rest-eq0 c =
     let a = c.args in
     let q = c.requires.place_bound in
-    let z : a.place ≡ 0 = q.2 ∙ (ap (λ (x : ℕ). 3 ^ a.b * x) c.if-rest-eq0.true ∙ mul-zero (3 ^ a.b)) in (
-      (λ st hv ha hw hs. turn_none (triple_at a.table.now a.n) a.place a.b st _ z (sym hs) (sym hv) (sym ha) ∙ ap (headed st a.b _) hw),
-      omega arith,
-    )
+    let z : a.place ≡ 0 = q.2 ∙ (ap (λ (x : ℕ). 3 ^ a.b * x) c.if-rest-eq0.true ∙ mul-zero (3 ^ a.b)) in record { state = (λ st hv ha hw hs. turn_none (triple_at a.table.now a.n) a.place a.b st _ z (sym hs) (sym hv) (sym ha) ∙ ap (headed st a.b _) hw); count = omega arith }
 
 pub returns-then-rest-eq1 : goal.returns-then-rest-eq1
 returns-then-rest-eq1 c =
@@ -26,11 +23,8 @@ returns-then-rest-eq1 c =
     let q = c.requires.place_bound in
     let v = c.plus-v.ensures in
     let z = alone a.place a.b (q.2 ∙ ap (λ (x : ℕ). 3 ^ a.b * x) c.if-rest-eq1.true) in
-    let h : 0 < a.place = above a.place a.b a.rest q.2 (omega (arith, c.if-rest-eq1)) in (
-      (λ st hv ha hw hs.
-          turn_one (triple_at a.table.now a.n) a.place a.b st _ h q.1 z (sym hs) (v.0 ∙ rw (hv, hs)) (omega (arith, v.1, ha)) ∙ ap (headed st a.b _) hw),
-      omega (arith, v.1),
-    )
+    let h : 0 < a.place = above a.place a.b a.rest q.2 (omega (arith, c.if-rest-eq1)) in record { state = (λ st hv ha hw hs.
+          turn_one (triple_at a.table.now a.n) a.place a.b st _ h q.1 z (sym hs) (v.0 ∙ rw (hv, hs)) (omega (arith, v.1, ha)) ∙ ap (headed st a.b _) hw); count = omega (arith, v.1) }
 
 pub overflow_add-c : goal.overflow_add-c
 overflow_add-c c =
@@ -62,7 +56,7 @@ head-requires c =
     let g = c.split-f.ensures in
     let o : 1 < a.rest = omega (arith, c.if-rest-eq1, c.if-rest-eq0) in
     let w = heads a.n a.place a.b a.rest _ _ q.0 q.1 q.2 o g.position g.whole (g.above (omega arith)) in
-    (c.requires.sized, (c.key-kb.ensures.0, omega arith, w.low, w.rest, q.3))
+    record { sized = c.requires.sized; kb_value = (c.key-kb.ensures.0, omega arith, w.low, w.rest, q.3) }
 
 pub returns : goal.returns
 returns c =
@@ -72,4 +66,4 @@ returns c =
     let o : 1 < a.rest = omega (arith, c.if-rest-eq1, c.if-rest-eq0) in
     let w = heads a.n a.place a.b a.rest _ _ q.0 q.1 q.2 o g.position g.whole (g.above (omega arith)) in
     let h = c.head.ensures in
-    ((λ st hv ha hw hs. ap (λ (ps : List ℕ). move_of (triple_at a.table.now a.n) ps st) w.positions ∙ h.0 st hv ha hw hs), h.1)
+    record { state = (λ st hv ha hw hs. ap (λ (ps : List ℕ). move_of (triple_at a.table.now a.n) ps st) w.positions ∙ h.0 st hv ha hw hs); count = h.1 }

@@ -38,10 +38,7 @@ vector-seed-requires c = let a = c.args in let q = c.requires in omega (arith, c
 pub row-requires : goal.row-requires
 row-requires c =
     let a = c.args in let q = c.requires in
-    let o = pair_order a.n a.at.now a.count a.s a.t q.5 q.1 q.2 in (
-      (omega arith, q.3, omega (arith, c.key.ensures.1, c.index.ensures.1, count_le a.n q.0)),
-      cell_room a.n _ _ _ (get_or a.at.now a.s 0) (get_or a.at.now a.t 0) a.count _ a.at.now q.5 q.0 o.0 (pair_number a.n (get_or a.at.now a.t 0) c.index.result c.index.ensures.0) (ap (λ (y : ℕ). y + (c.index.result - a.n - 1 - (get_or a.at.now a.t 0))) c.key.ensures.0) q.4 (later_same a.n a.at.now a.count a.s a.t q.5 c.if-s-t.true),
-    )
+    let o = pair_order a.n a.at.now a.count a.s a.t q.5 q.1 q.2 in record { from_le_count = (omega arith, q.3, omega (arith, c.key.ensures.1, c.index.ensures.1, count_le a.n q.0)); by_index = cell_room a.n _ _ _ (get_or a.at.now a.s 0) (get_or a.at.now a.t 0) a.count _ a.at.now q.5 q.0 o.0 (pair_number a.n (get_or a.at.now a.t 0) c.index.result c.index.ensures.0) (ap (λ (y : ℕ). y + (c.index.result - a.n - 1 - (get_or a.at.now a.t 0))) c.key.ensures.0) q.4 (later_same a.n a.at.now a.count a.s a.t q.5 c.if-s-t.true) }
 
 pub returns-then-s-t : goal.returns-then-s-t
 returns-then-s-t c =
@@ -59,10 +56,7 @@ returns-then-s-t c =
 pub row-requires-2 : goal.row-requires-2
 row-requires-2 c =
     let a = c.args in let q = c.requires in
-    let o = pair_order a.n a.at.now a.count a.s a.t q.5 q.1 q.2 in (
-      (omega arith, q.3, omega (arith, c.key.ensures.1, c.index.ensures.1, count_le a.n q.0)),
-      cell_room a.n _ _ _ (get_or a.at.now a.s 0) (get_or a.at.now a.t 0) a.count _ a.at.now q.5 q.0 o.0 (pair_number a.n (get_or a.at.now a.t 0) c.index.result c.index.ensures.0) (ap (λ (y : ℕ). y + (c.index.result - a.n - 1 - (get_or a.at.now a.t 0))) c.key.ensures.0) q.4 (later_apart a.n a.at.now a.count a.s a.t q.5 q.1 c.if-s-t.false),
-    )
+    let o = pair_order a.n a.at.now a.count a.s a.t q.5 q.1 q.2 in record { from_le_count = (omega arith, q.3, omega (arith, c.key.ensures.1, c.index.ensures.1, count_le a.n q.0)); by_index = cell_room a.n _ _ _ (get_or a.at.now a.s 0) (get_or a.at.now a.t 0) a.count _ a.at.now q.5 q.0 o.0 (pair_number a.n (get_or a.at.now a.t 0) c.index.result c.index.ensures.0) (ap (λ (y : ℕ). y + (c.index.result - a.n - 1 - (get_or a.at.now a.t 0))) c.key.ensures.0) q.4 (later_apart a.n a.at.now a.count a.s a.t q.5 q.1 c.if-s-t.false) }
 
 pub returns : goal.returns
 returns c =

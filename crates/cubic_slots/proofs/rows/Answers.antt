@@ -45,10 +45,7 @@ weighed-r-requires c =
     let more : Ready a.n a.b a.rest l.at l.turn l.count (o.c + 2) c.skip-from-in-loop-c.result
     = let e : o.c + 1 + 1 ≡ o.c + 2 = omega arith in subst (λ (k : ℕ). Ready a.n a.b a.rest l.at l.turn l.count k c.skip-from-in-loop-c.result) e
     (ready_skip a.n a.b a.rest l.at l.turn l.count (o.c + 1) o.from c.skip-from-in-loop-c.result c.skip-from-in-loop-c.ensures.0 o.invariant.5) in
-    let p = c.requires in (
-      (p.0, omega arith, omega arith, ap₂ (λ (x y : ℕ). x + (y - o.c)) c.key-kb.ensures.0 c.pair.ensures.0, omega arith, p.2, omega arith, omega arith),
-      ready_late a.n a.b a.rest l.at l.turn l.count (o.c + 2) c.skip-from-in-loop-c.result more,
-    )
+    let p = c.requires in record { n_le_most_unknowns = (p.0, omega arith, omega arith, ap₂ (λ (x y : ℕ). x + (y - o.c)) c.key-kb.ensures.0 c.pair.ensures.0, omega arith, p.2, omega arith, omega arith); by_index = ready_late a.n a.b a.rest l.at l.turn l.count (o.c + 2) c.skip-from-in-loop-c.result more }
 
 pub overflow_add-c-in-loop-c-2 : goal.overflow_add-c-in-loop-c-2
 overflow_add-c-in-loop-c-2 c = omega (arith, c.loop-c.invariant.1, c.loop-c-test, c.requires.0)

@@ -13,7 +13,7 @@ cell-requires c = let q = c.requires in let i = c.loop-d.invariant in (q.0, q.1,
 
 pub loop-d-preserved : goal.loop-d-preserved
 loop-d-preserved c = let i = c.loop-d.invariant in
-    (omega arith, omega arith, c.cell.auto.1.0 ∙ i.2, λ m g old f t x w. c.cell.ensures m g old f t x (i.3 m g old f t x w))
+    (omega arith, omega arith, c.cell.auto.to ∙ i.2, λ m g old f t x w. c.cell.ensures m g old f t x (i.3 m g old f t x w))
 
 pub shape_of-to : goal.shape_of-to
 shape_of-to c = c.loop-d.invariant.2 ∙ sym c.requires.4

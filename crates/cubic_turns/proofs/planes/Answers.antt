@@ -19,7 +19,7 @@ loop-c-preserved c =
     let b = a.b in
     let l = c.loop-c in
     let i = l.invariant in
-    (omega arith, omega arith, c.cells.auto.1.0 ∙ i.2, λ m g old f t x w. row_over n b l.c g old _ i.0 c.loop-c-test.true (c.cells.ensures m g old f t x (i.3 m g old f t x w)))
+    (omega arith, omega arith, c.cells.auto.to ∙ i.2, λ m g old f t x w. row_over n b l.c g old _ i.0 c.loop-c-test.true (c.cells.ensures m g old f t x (i.3 m g old f t x w)))
 
 pub shape_of-to : goal.shape_of-to
 shape_of-to c = c.loop-c.invariant.2 ∙ sym c.requires.3

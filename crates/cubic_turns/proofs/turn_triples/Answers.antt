@@ -23,7 +23,7 @@ loop-b-preserved c =
     let l = c.loop-b in
     let i = l.invariant in
     let old = a.to.now in
-    (omega arith, c.planes.auto.1.0 ∙ i.1, λ m g f t x. plane_over n l.b g old _ c.loop-b-test.true (c.planes.ensures m g old f t x (i.2 m g f t x)))
+    (omega arith, c.planes.auto.to ∙ i.1, λ m g f t x. plane_over n l.b g old _ c.loop-b-test.true (c.planes.ensures m g old f t x (i.2 m g f t x)))
 
 pub shape_of-to : goal.shape_of-to
 shape_of-to c = c.loop-b.invariant.1 ∙ sym c.requires.2

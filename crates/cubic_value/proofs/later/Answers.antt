@@ -44,10 +44,7 @@ weighed-r-requires c =
     let o = c.loop-c in
     let more : Ready a.n 0 a.q a.at.now a.turn.now a.count (o.c + 2) c.skip-f.result
     = let e : o.c + 1 + 1 ≡ o.c + 2 = omega arith in subst (λ (k : ℕ). Ready a.n 0 a.q a.at.now a.turn.now a.count k c.skip-f.result) e
-    (ready_skip a.n 0 a.q a.at.now a.turn.now a.count (o.c + 1) o.f c.skip-f.result c.skip-f.ensures.0 o.invariant.4) in (
-      (p.0, omega arith, omega arith, ap₂ (λ (x y : ℕ). x + (y - o.c)) c.key-kb.ensures.0 c.pair.ensures.0, omega arith, p.2, c.skip-f.ensures.1, p.4),
-      ready_late a.n 0 a.q a.at.now a.turn.now a.count (o.c + 2) c.skip-f.result more,
-    )
+    (ready_skip a.n 0 a.q a.at.now a.turn.now a.count (o.c + 1) o.f c.skip-f.result c.skip-f.ensures.0 o.invariant.4) in record { n_le_most_unknowns = (p.0, omega arith, omega arith, ap₂ (λ (x y : ℕ). x + (y - o.c)) c.key-kb.ensures.0 c.pair.ensures.0, omega arith, p.2, c.skip-f.ensures.1, p.4); by_index = ready_late a.n 0 a.q a.at.now a.turn.now a.count (o.c + 2) c.skip-f.result more }
 
 pub overflow_add-c-in-loop-c-2 : goal.overflow_add-c-in-loop-c-2
 overflow_add-c-in-loop-c-2 c = omega (arith, c.loop-c-test, c.requires.0)

@@ -27,10 +27,7 @@ weighed-side-requires c =
     let more : Ready a.n 0 a.q a.at.now a.turn.now a.count (a.b + 3) c.skip-f.result
     = let e : a.b + 2 + 1 ≡ a.b + 3 = omega arith in subst (λ (k : ℕ). Ready a.n 0 a.q a.at.now a.turn.now a.count k c.skip-f.result) e
     (ready_skip a.n 0 a.q a.at.now a.turn.now a.count (a.b + 2) a.from c.skip-f.result c.skip-f.ensures.0 p.5) in
-    let e : a.b + 3 ≡ a.b + 1 + 2 = omega arith in (
-      (p.0, omega arith, p.1, ap₂ (λ (x y : ℕ). x + (y - (a.b + 1))) c.key.ensures.0 c.pair.ensures.0, omega arith, p.2, c.skip-f.ensures.1, p.4),
-      ready_late a.n 0 a.q a.at.now a.turn.now a.count (a.b + 1 + 2) c.skip-f.result (subst (λ (k : ℕ). Ready a.n 0 a.q a.at.now a.turn.now a.count k c.skip-f.result) e more),
-    )
+    let e : a.b + 3 ≡ a.b + 1 + 2 = omega arith in record { n_le_most_unknowns = (p.0, omega arith, p.1, ap₂ (λ (x y : ℕ). x + (y - (a.b + 1))) c.key.ensures.0 c.pair.ensures.0, omega arith, p.2, c.skip-f.ensures.1, p.4); by_index = ready_late a.n 0 a.q a.at.now a.turn.now a.count (a.b + 1 + 2) c.skip-f.result (subst (λ (k : ℕ). Ready a.n 0 a.q a.at.now a.turn.now a.count k c.skip-f.result) e more) }
 
 pub later-far-requires : goal.later-far-requires
 later-far-requires c =

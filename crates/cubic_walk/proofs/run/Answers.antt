@@ -27,7 +27,7 @@ overflow_sub-len c =
 pub steps-a-requires : goal.steps-a-requires
 steps-a-requires c =
     let o = c.loop-start.invariant.1.sound in
-    (c.requires.sized, record { place = o.place; found = o.found; additions = o.additions })
+    record { sized = c.requires.sized; sane_2 = record { place = o.place; found = o.found; additions = o.additions } }
 
 pub overflow_sub-more : goal.overflow_sub-more
 overflow_sub-more c = omega (arith, c.steps-a.ensures.sane.1)
@@ -41,10 +41,10 @@ overflow_sub-more-in-loop-start c =
     let f = c.lead-first in
     let h : 0 < f.result = f.ensures.1 g.left in
     let x = c.steps-a in
-    omega (arith, x.ensures.1.1, f.ensures.0)
+    omega (arith, x.ensures.sane.1, f.ensures.0)
 
 pub leaps-r-requires : goal.leaps-r-requires
-leaps-r-requires c = (c.requires.sized, c.steps-a.ensures.sane.0)
+leaps-r-requires c = record { sized = c.requires.sized; sane_2 = c.steps-a.ensures.sane.0 }
 
 pub overflow_sub-left : goal.overflow_sub-left
 overflow_sub-left c = omega (arith, c.leaps-r.ensures.sane.1)
@@ -62,8 +62,8 @@ loop-start-smaller c =
     let h : 0 < f.result = f.ensures.1 g.left in
     let x = c.steps-a in
     let y = c.leaps-r in
-    let p : l.r.walker.place < x.result.walker.place = goes_some 3 (walk_of a.n T) counts 3 (step_near (point_of 3 a.n) T) a.end f.result l.left (state_of l.r l.list) (state_of x.result _) g h x.ensures.0 in
-    omega (arith, p, g.left, x.ensures.1.1, f.ensures.0)
+    let p : l.r.walker.place < x.result.walker.place = goes_some 3 (walk_of a.n T) counts 3 (step_near (point_of 3 a.n) T) a.end f.result l.left (state_of l.r l.list) (state_of x.result _) g h x.ensures.state in
+    omega (arith, p, g.left, x.ensures.sane.1, f.ensures.0)
 
 pub loop-start-preserved : goal.loop-start-preserved
 loop-start-preserved c =
@@ -75,8 +75,8 @@ loop-start-preserved c =
     let h : 0 < f.result = f.ensures.1 g.left in
     let x = c.steps-a in
     let y = c.leaps-r in
-    let o = y.ensures.1.0 in
-    (l.invariant.0, walked_on 3 (walk_of a.n T) counts 3 (step_near (point_of 3 a.n) T) a.end f.result a.budget l.left _ (state_of l.r l.list) (state_of x.result _) (state_of y.result _) l.invariant.1 f.ensures.0 x.ensures.0 x.auto.1.1.1.1.1.0 y.ensures.0 record { place = o.place; found = o.found; additions = o.additions } y.auto.1.1.1.1.1.0 y.ensures.1.1.0 y.ensures.1.1.1)
+    let o = y.ensures.sane.0 in
+    (l.invariant.0, walked_on 3 (walk_of a.n T) counts 3 (step_near (point_of 3 a.n) T) a.end f.result a.budget l.left _ (state_of l.r l.list) (state_of x.result _) (state_of y.result _) l.invariant.1 f.ensures.0 x.ensures.state x.auto.list y.ensures.state record { place = o.place; found = o.found; additions = o.additions } y.auto.list y.ensures.sane.1.0 y.ensures.sane.1.1)
 
 pub shape_of-list : goal.shape_of-list
 shape_of-list c = c.loop-start.invariant.1.list
@@ -87,4 +87,4 @@ returns c =
     let a = c.args in
     let w = l.invariant.1 in
     let e = goes_no_more 3 (walk_of a.n (triple_at a.table.now a.n)) counts 3 a.end a.budget l.left (length a.list.now) _ _ _ w refl c.going.ensures c.loop-start-test.false in
-    (e, (omega (arith, w.went, w.less), w.sound.place))
+    record { state = e; range = (omega (arith, w.went, w.less), w.sound.place) }

@@ -22,7 +22,7 @@ loop-i-init c =
     let q = c.requires in
     let p = c.put_entry in
     let v = c.vector.ensures in
-    (omega arith, p.auto.0 ∙ q.2, λ m t. rw p.ensures (filled_none a.n (coefficients_of a.n m a.from.now) a.to.now c.vector.result (omega (arith, count_is a.n)) (v ∙ coefficients_first a.n m a.from.now t)))
+    (omega arith, p.auto.table ∙ q.2, λ m t. rw p.ensures (filled_none a.n (coefficients_of a.n m a.from.now) a.to.now c.vector.result (omega (arith, count_is a.n)) (v ∙ coefficients_first a.n m a.from.now t)))
 
 pub product_before-p-requires : goal.product_before-p-requires
 product_before-p-requires c = let q = c.requires in (q.0, c.loop-i-test.true, c.loop-i.invariant.1)
@@ -36,7 +36,7 @@ loop-i-preserved c =
     let l = c.loop-i in
     let h = c.loop-i-test.true in (
       omega arith,
-      c.turn.auto.1.0 ∙ l.invariant.1,
+      c.turn.auto.to ∙ l.invariant.1,
       λ m t.
           let g = coefficients_of a.n m a.from.now in
           let b : c.product_before-p.result ≡ before_of a.n g l.i = c.product_before-p.ensures ∙ before_filled a.n l.i g l.to h (l.invariant.2 m t) in

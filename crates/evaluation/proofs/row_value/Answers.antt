@@ -22,10 +22,7 @@ vector-seed-requires c = let a = c.args in let q = c.requires in omega (arith, q
 
 pub row-requires : goal.row-requires
 row-requires c =
-    let a = c.args in let q = c.requires in (
-      (omega (arith, q.1), q.2, omega (arith, c.index.ensures.1, count_le a.n q.0)),
-      row_room a.n _ _ _ a.count a.s a.at.now q.4 q.0 q.1 c.index.ensures.0 refl q.3,
-    )
+    let a = c.args in let q = c.requires in record { from_le_count = (omega (arith, q.1), q.2, omega (arith, c.index.ensures.1, count_le a.n q.0)); by_index = row_room a.n _ _ _ a.count a.s a.at.now q.4 q.0 q.1 c.index.ensures.0 refl q.3 }
 
 pub returns : goal.returns
 returns c =

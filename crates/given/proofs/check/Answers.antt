@@ -10,10 +10,10 @@ pub returns-in-Two : goal.returns-in-Two
 returns-in-Two c =
     let a = c.args in
     let e : c.check.result ≡ table_verdict (table_with a.degree a.n a.m a.table.now) Done = c.check.ensures.answer ∙ sym (ap (λ (d : Degree). table_verdict (table_with d a.n a.m a.table.now) Done) c.in-Two.is) in
-    (e, ap code_of e)
+    record { answer = e; number = ap code_of e }
 
 pub returns-in-Three : goal.returns-in-Three
 returns-in-Three c =
     let a = c.args in
     let e : c.check-in-Three.result ≡ table_verdict (table_with a.degree a.n a.m a.table.now) Done = c.check-in-Three.ensures.answer ∙ sym (ap (λ (d : Degree). table_verdict (table_with d a.n a.m a.table.now) Done) c.in-Three.is) in
-    (e, ap code_of e)
+    record { answer = e; number = ap code_of e }

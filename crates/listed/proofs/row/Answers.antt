@@ -10,10 +10,10 @@ pub loop-t-init : goal.loop-t-init
 loop-t-init c = (omega arith, omega (arith, c.requires.from_le_count), λ m n i x s h g o y z w. row_begun m s _ _ z y)
 
 pub overflow_add-base : goal.overflow_add-base
-overflow_add-base c = let q = c.requires in let l = c.loop-t in omega (arith, q.0.2, (q.1 l.t l.invariant.0 c.loop-t-test.true).0)
+overflow_add-base c = let q = c.requires in let l = c.loop-t in omega (arith, q.from_le_count.2, (q.by_index l.t l.invariant.0 c.loop-t-test.true).0)
 
 pub vector-requires : goal.vector-requires
-vector-requires c = let q = c.requires in let l = c.loop-t in (q.1 l.t l.invariant.0 c.loop-t-test.true).1
+vector-requires c = let q = c.requires in let l = c.loop-t in (q.by_index l.t l.invariant.0 c.loop-t-test.true).1
 
 pub loop-t-preserved : goal.loop-t-preserved
 loop-t-preserved c =

@@ -14,7 +14,7 @@ returns-then-rest-eq0 c =
     let a = c.args in
     let q = c.requires.place_bound in
     let z : a.place ≡ 0 = q.2 ∙ (ap (λ (x : ℕ). 3 ^ a.b * x) c.if-rest-eq0.true ∙ mul-zero (3 ^ a.b)) in
-    ((λ st hv ha hs l. head_none a.n (product a.table.now a.n) a.place a.b st _ z (sym hs) (sym hv) (sym ha)), omega arith)
+    record { state = (λ st hv ha hs l. head_none a.n (product a.table.now a.n) a.place a.b st _ z (sym hs) (sym hv) (sym ha)); count = omega arith }
 
 pub returns-then-rest-eq1 : goal.returns-then-rest-eq1
 returns-then-rest-eq1 c =
@@ -23,7 +23,7 @@ returns-then-rest-eq1 c =
     let v = c.plus-v.ensures in
     let z = alone a.place a.b (q.2 ∙ ap (λ (x : ℕ). 3 ^ a.b * x) c.if-rest-eq1.true) in
     let h : 0 < a.place = above a.place a.b a.rest q.2 (omega (arith, c.if-rest-eq1)) in
-    ((λ st hv ha hs l. head_one a.n (product a.table.now a.n) a.place a.b st _ h q.1 z (sym hs) (v.0 ∙ rw (hv, hs)) (omega arith)), omega arith)
+    record { state = (λ st hv ha hs l. head_one a.n (product a.table.now a.n) a.place a.b st _ h q.1 z (sym hs) (v.0 ∙ rw (hv, hs)) (omega arith)); count = omega arith }
 
 pub overflow_add-c : goal.overflow_add-c
 overflow_add-c c =
@@ -51,10 +51,7 @@ returns c =
     let u = second a.place a.b a.rest q.2 o in
     let h : 0 < a.place = above a.place a.b a.rest q.2 (omega arith) in
     let v = c.raise.ensures in
-    let g = c.split-f in (
-      (λ st hv ha hs l.
+    let g = c.split-f in record { state = (λ st hv ha hs l.
           head_two a.n (product a.table.now a.n) a.place a.b (a.b + g.result.position) st _ h q.1 u.0
           (ap (λ (x : ℕ). a.b + x) g.ensures.position ∙ sym u.1) l
-          (v.0 ∙ rw (hs, c.entry-t.ensures)) (v.1 ∙ rw (hv, v.0)) (omega (arith, v.2))),
-      omega (arith, v.2),
-    )
+          (v.0 ∙ rw (hs, c.entry-t.ensures)) (v.1 ∙ rw (hv, v.0)) (omega (arith, v.2))); count = omega (arith, v.2) }

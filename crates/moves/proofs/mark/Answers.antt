@@ -7,14 +7,8 @@ use Rattle.moves.proofs.mark.Goals as goal
 
 pub returns-then-is_zero : goal.returns-then-is_zero
 returns-then-is_zero c =
-    let e : is_zero c.args.value ≡ true = sym c.is_zero.ensures.word ∙ c.if-is_zero.true in (
-      rw e,
-      (rw (e, c.point_at-point.ensures), (omega arith, omega arith)),
-    )
+    let e : is_zero c.args.value ≡ true = sym c.is_zero.ensures.word ∙ c.if-is_zero.true in record { count = rw e; list = rw (e, c.point_at-point.ensures); bound = (omega arith, omega arith) }
 
 pub returns-else-is_zero : goal.returns-else-is_zero
 returns-else-is_zero c =
-    let e : is_zero c.args.value ≡ false = sym c.is_zero.ensures.word ∙ c.if-is_zero.false in (
-      rw e,
-      (rw e, (omega arith, omega arith)),
-    )
+    let e : is_zero c.args.value ≡ false = sym c.is_zero.ensures.word ∙ c.if-is_zero.false in record { count = rw e; list = rw e; bound = (omega arith, omega arith) }

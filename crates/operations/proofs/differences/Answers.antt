@@ -11,7 +11,7 @@ returns-in-Two c =
     let z = c.in-Two.is in
     let x = c.differences.ensures in
     let e = x.0 ∙ sym (ap (λ (d : Degree). copying d a.n a.m a.coefficients.now a.table.now) z) in
-    (e, (x.1.0 ∙ sym (ap (λ (d : Degree). differences_into d a.n a.m a.coefficients.now a.table.now) z), ap code_of e))
+    record { answer = e; left = x.1.0 ∙ sym (ap (λ (d : Degree). differences_into d a.n a.m a.coefficients.now a.table.now) z); number = ap code_of e }
 
 pub returns-in-Three : goal.returns-in-Three
 returns-in-Three c =
@@ -19,4 +19,4 @@ returns-in-Three c =
     let z = c.in-Three.is in
     let x = c.differences-in-Three.ensures in
     let e = x.0 ∙ sym (ap (λ (d : Degree). copying d a.n a.m a.coefficients.now a.table.now) z) in
-    (e, (x.1.0 ∙ sym (ap (λ (d : Degree). differences_into d a.n a.m a.coefficients.now a.table.now) z), ap code_of e))
+    record { answer = e; left = x.1.0 ∙ sym (ap (λ (d : Degree). differences_into d a.n a.m a.coefficients.now a.table.now) z); number = ap code_of e }

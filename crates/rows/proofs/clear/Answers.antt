@@ -18,7 +18,7 @@ loop-k-preserved c =
     let h = c.loop-k-test.true in
     let p = c.put_entry in (
       omega arith,
-      p.auto.0 ∙ l.invariant.1,
+      p.auto.table ∙ l.invariant.1,
       λ g z. rw p.ensures (written_put g a.table.now l.table 0 l.k none (omega arith) (omega arith) (sym (z l.k h)) (l.invariant.2 g z)),
     )
 

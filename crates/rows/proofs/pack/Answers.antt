@@ -13,7 +13,7 @@ pub returns-then-not-sizes_fit : goal.returns-then-not-sizes_fit
 returns-then-not-sizes_fit c =
     let a = c.args in
     let e = sized_not a.n a.m _ (said_no _ c.sizes_fit.ensures (not-true _ c.if-not-sizes_fit.true-raw)) in
-    (sym e, (sym (ap (λ (v : Verdict). after v a.table.now (packed a.n a.m a.rows.now)) e), ap code_of (sym e)))
+    record { answer = sym e; left = sym (ap (λ (v : Verdict). after v a.table.now (packed a.n a.m a.rows.now)) e); number = ap code_of (sym e) }
 
 pub count-requires : goal.count-requires
 count-requires c = let w = c.sizes_fit.ensures.0 (not-false _ c.if-not-sizes_fit.false-raw) in (w.least, w.most)
@@ -26,5 +26,5 @@ returns c =
     let a = c.args in
     let p = c.pack_entries in
     let s = c.sizes_fit.ensures.0 (not-false _ c.if-not-sizes_fit.false-raw) in
-    let k = pack_is a.n a.m a.rows.now a.table.now _ _ _ s c.count.ensures.0 p.ensures.0 p.ensures.1 in
-    (k.0, (k.1, k.2))
+    let k = pack_is a.n a.m a.rows.now a.table.now _ _ _ s c.count.ensures.0 p.ensures.value p.ensures.left in
+    record { answer = k.0; left = k.1; number = k.2 }

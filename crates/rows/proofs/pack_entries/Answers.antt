@@ -15,16 +15,16 @@ pub returns-then-rows-m : goal.returns-then-rows-m
 returns-then-rows-m c =
     let a = c.args in
     let e = pack_rows a.entries a.m a.rows.now a.table.now c.if-rows-m.true in
-    (sym e, sym (ap (λ (v : Verdict). after v a.table.now (packed_rows a.entries a.m a.rows.now)) e))
+    record { value = sym e; left = sym (ap (λ (v : Verdict). after v a.table.now (packed_rows a.entries a.m a.rows.now)) e) }
 
 pub returns-then-table-entries : goal.returns-then-table-entries
 returns-then-table-entries c =
     let a = c.args in
     let e = pack_table a.entries a.m a.rows.now a.table.now c.if-rows-m.false c.if-table-entries.true in
-    (sym e, sym (ap (λ (v : Verdict). after v a.table.now (packed_rows a.entries a.m a.rows.now)) e))
+    record { value = sym e; left = sym (ap (λ (v : Verdict). after v a.table.now (packed_rows a.entries a.m a.rows.now)) e) }
 
 pub returns : goal.returns
 returns c =
     let a = c.args in
     let e = pack_done a.entries a.m a.rows.now a.table.now c.if-rows-m.false c.if-table-entries.false in
-    (sym e, c.pack_rows.ensures ∙ sym (ap (λ (v : Verdict). after v a.table.now (packed_rows a.entries a.m a.rows.now)) e))
+    record { value = sym e; left = c.pack_rows.ensures ∙ sym (ap (λ (v : Verdict). after v a.table.now (packed_rows a.entries a.m a.rows.now)) e) }

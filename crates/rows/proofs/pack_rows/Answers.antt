@@ -12,7 +12,7 @@ loop-e-init c =
     let a = c.args in
     let q = c.requires in
     let l = c.clear in
-    (omega arith, l.auto.0 ∙ q.3, packed_none a.entries a.rows.now a.table.now l.new.0 q.3 l.ensures)
+    (omega arith, l.auto.table ∙ q.3, packed_none a.entries a.rows.now a.table.now l.new.table q.3 l.ensures)
 
 pub overflow_mul-at : goal.overflow_mul-at
 overflow_mul-at c =
@@ -58,7 +58,7 @@ loop-e-preserved c =
     let q = c.requires in
     let l = c.loop-e in
     let p = c.pack_row in
-    (omega arith, p.auto.1.1.0 ∙ l.invariant.1, packed_part a.entries a.rows.now l.e a.m l.table p.new.1.1.0 c.loop-e-test.true q.1 q.2 l.invariant.2 p.ensures)
+    (omega arith, p.auto.table ∙ l.invariant.1, packed_part a.entries a.rows.now l.e a.m l.table p.new.table c.loop-e-test.true q.1 q.2 l.invariant.2 p.ensures)
 
 pub shape_of-table : goal.shape_of-table
 shape_of-table c = c.loop-e.invariant.1 ∙ sym c.requires.3

@@ -16,14 +16,14 @@ pub put_entry-requires-2 : goal.put_entry-requires-2
 put_entry-requires-2 c =
     let q = c.requires in
     let k = c.index-first.ensures.1 in
-    let l = c.put_entry.auto.0 in
+    let l = c.put_entry.auto.table in
     omega (arith, q, k, l)
 
 pub turn_products-requires : goal.turn_products-requires
 turn_products-requires c =
     let q = c.requires in
-    let l = c.put_entry.auto.0 in
-    let r = c.put_entry-2.auto.0 in
+    let l = c.put_entry.auto.table in
+    let r = c.put_entry-2.auto.table in
     (q.0, q.1, q.2, r ∙ l ∙ q.3)
 
 pub returns : goal.returns
@@ -37,5 +37,5 @@ returns c =
     c.index-first.result c.index-first.ensures.0
     c.add-2.result c.negate-2.result c.negate-3.result c.add-3.result
     c.add-2.ensures c.negate-2.ensures c.negate-3.ensures c.add-3.ensures
-    c.turn_products.new.1.0
+    c.turn_products.new.to
     (λ f s p. rw (c.put_entry-2.ensures, c.put_entry.ensures) at (c.turn_products.ensures m f g table s p))

@@ -14,8 +14,5 @@ returns c =
     let x = c.steps-a in
     let y = c.leaps-b in
     let u = c.steps in
-    let h = min-le_left a.budget (27 - a.w.place % 27) in (
-      joined a.n (product a.table.now a.n) a.end a.budget c.lead-first.result (fresh a.w a.list.now) (state_of x.result _) (state_of y.result _) _
-          (omega arith) x.ensures.1.1.0 y.ensures.1.1.0 x.ensures.0 y.ensures.0 u.ensures.0,
-      (omega (arith, x.ensures.1.1.0, y.ensures.1.1.0, u.ensures.1.1.0), u.ensures.1.0.place),
-    )
+    let h = min-le_left a.budget (27 - a.w.place % 27) in record { state = joined a.n (product a.table.now a.n) a.end a.budget c.lead-first.result (fresh a.w a.list.now) (state_of x.result _) (state_of y.result _) _
+          (omega arith) x.ensures.sane.1.0 y.ensures.sane.1.0 x.ensures.state y.ensures.state u.ensures.state; range = (omega (arith, x.ensures.sane.1.0, y.ensures.sane.1.0, u.ensures.sane.1.0), u.ensures.sane.0.place) }

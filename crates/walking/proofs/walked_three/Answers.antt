@@ -17,7 +17,7 @@ pub run-t-requires : goal.run-t-requires
 run-t-requires c =
     let a = c.args in
     let w = within (cubic a.n a.m a.table.now) c.requires.0 in
-    (record { some = w.least; small = w.most; table = (cubic_table_of a.n a.m a.table.now c.requires.0).size; end = omega (arith, c.requires.2) }, omega (arith, c.requires.2, fits_place (cubic a.n a.m a.table.now) (whole_of Three a.s a.seconds.now) c.requires.1))
+    record { sized = record { some = w.least; small = w.most; table = (cubic_table_of a.n a.m a.table.now c.requires.0).size; end = omega (arith, c.requires.2) }; place_le_end = omega (arith, c.requires.2, fits_place (cubic a.n a.m a.table.now) (whole_of Three a.s a.seconds.now) c.requires.1) }
 
 pub returns : goal.returns
 returns c =
@@ -25,5 +25,5 @@ returns c =
     let x = c.run-t in
     three_leaves a.n a.m a.table.now c.requires.0 (whole_of Three a.s a.seconds.now) c.requires.1 a.budget a.end a.list.now _ x.result c.requires.2
     (simp length-map at x.type-inv.1.1.0.1.1.1.1.0.1.0.1)
-    (x.ensures.0 ∙ ap (λ (y : List ℕ). search_of a.table.now a.n a.end a.budget (fresh (record { place = a.s.place.0; value = a.s.value; slots = a.s.slots; seconds = y }) a.list.now)) c.copy.ensures)
+    (x.ensures.state ∙ ap (λ (y : List ℕ). search_of a.table.now a.n a.end a.budget (fresh (record { place = a.s.place.0; value = a.s.value; slots = a.s.slots; seconds = y }) a.list.now)) c.copy.ensures)
     _ c.copy-2.ensures

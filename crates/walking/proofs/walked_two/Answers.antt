@@ -17,11 +17,11 @@ run-t-requires c =
     let m = a.m in
     let t = a.table.now in
     let w = within (quadratic n m t) c.requires.0 in
-    (record { some = w.least; small = w.most; table = (table_of_lem n m t c.requires.0).size; end = omega (arith, c.requires.2) }, omega (arith, c.requires.2, fits_place (quadratic n m t) (whole_of Two a.f []) c.requires.1))
+    record { sized = record { some = w.least; small = w.most; table = (table_of_lem n m t c.requires.0).size; end = omega (arith, c.requires.2) }; place_le_end = omega (arith, c.requires.2, fits_place (quadratic n m t) (whole_of Two a.f []) c.requires.1) }
 
 pub returns : goal.returns
 returns c =
     let a = c.args in
     let x = c.run-t in
     two_leaves a.n a.m a.table.now c.requires.0 (whole_of Two a.f []) c.requires.1 a.budget a.end a.list.now _ x.result c.requires.2
-    (simp length-map at x.type-inv.1.1.0.1.1.1.1.0.1.0.1) x.ensures.0
+    (simp length-map at x.type-inv.1.1.0.1.1.1.1.0.1.0.1) x.ensures.state

@@ -19,10 +19,7 @@ vector-requires c = omega (arith, cubic_count_low c.args.n)
 pub row-far-requires : goal.row-far-requires
 row-far-requires c =
     let a = c.args in
-    let p = c.requires.n_le_most_unknowns in (
-      (p.6, p.7, p.4),
-      λ t l m. let s = c.requires.by_index t l m in let r = base_room a.n a.b a.c (get_or a.at.now t 0) a.base _ p.1 (omega arith) (omega arith) s.1 p.3 p.5 in (omega arith, r),
-    )
+    let p = c.requires.n_le_most_unknowns in record { from_le_count = (p.6, p.7, p.4); by_index = λ t l m. let s = c.requires.by_index t l m in let r = base_room a.n a.b a.c (get_or a.at.now t 0) a.base _ p.1 (omega arith) (omega arith) s.1 p.3 p.5 in (omega arith, r) }
 
 pub more-near-requires : goal.more-near-requires
 more-near-requires c =

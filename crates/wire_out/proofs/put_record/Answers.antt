@@ -18,7 +18,7 @@ pub returns : goal.returns
 returns c =
     let w = c.args.w.now in
     let p = c.put_first in
-    let x = p.new.1.0 in
-    let n : length x ≡ 45 = p.auto.1.0 ∙ length-take-le 45 w (omega (arith, c.requires)) in
+    let x = p.new.w in
+    let n : length x ≡ 45 = p.auto.w ∙ length-take-le 45 w (omega (arith, c.requires)) in
     put_parts w x _ (length (x ++ drop 45 w) - 45) n (omega (arith, length-append x (drop 45 w), n))
     ∙ ap₂ (λ (u v : List ℕ). u ++ v) p.ensures c.put_seconds.ensures

@@ -7,7 +7,7 @@ use Rattle.codec.specs.Codec.{bytes_from, pasted}
 use Rattle.wire_out.proofs.write_parts.Goals as goal
 
 pub encode-requires-2 : goal.encode-requires-2
-encode-requires-2 c = omega (arith, c.requires.0, c.requires.1, c.encode.auto.1.0)
+encode-requires-2 c = omega (arith, c.requires.0, c.requires.1, c.encode.auto.b)
 
 pub returns : goal.returns
 returns c =

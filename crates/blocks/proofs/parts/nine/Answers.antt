@@ -24,18 +24,15 @@ returns-then-left-eq0 c =
     let a = c.args in
     let t = a.top in
     let w = l.invariant.2 in
-    let e = g.ensures.1 in (
-      (λ rest.
-          g.ensures.0 rest ∙ sym (rows_none t.t00 t.t01 t.t11 l.a0 l.a1 (whole l.y rest l.list))
-          ∙ ap (λ (k : ℕ). rows_of k l.a0 l.a1 t.t00 t.t01 t.t11 (whole l.y rest l.list)) (sym c.if-left-eq0.true) ∙ l.invariant.3 rest),
-      record { place = omega (arith, c.if-left-eq0); found = omega (arith, c.if-left-eq0); additions = omega (arith, c.if-left-eq0) },
-    )
+    let e = g.ensures.went in record { state = (λ rest.
+          g.ensures.state rest ∙ sym (rows_none t.t00 t.t01 t.t11 l.a0 l.a1 (whole l.y rest l.list))
+          ∙ ap (λ (k : ℕ). rows_of k l.a0 l.a1 t.t00 t.t01 t.t11 (whole l.y rest l.list)) (sym c.if-left-eq0.true) ∙ l.invariant.3 rest); went = record { place = omega (arith, c.if-left-eq0); found = omega (arith, c.if-left-eq0); additions = omega (arith, c.if-left-eq0) } }
 
 pub raise_slot-y-requires : goal.raise_slot-y-requires
 raise_slot-y-requires c =
     let g = c.three-y in
     let l = c.loop-left in
-    (omega arith, omega (arith, g.ensures.1, l.invariant.0, l.invariant.2, c.requires))
+    (omega arith, omega (arith, g.ensures.went, l.invariant.0, l.invariant.2, c.requires))
 
 pub overflow_sub-left : goal.overflow_sub-left
 overflow_sub-left c = omega (arith, c.if-left-eq0)
@@ -51,7 +48,7 @@ loop-left-preserved c =
     let t = a.top in
     let m = c.raise_slot-y.ensures in
     let w = l.invariant.2 in
-    let e = g.ensures.1 in
+    let e = g.ensures.went in
     let v = m.1 in
     let h : 0 < l.left = omega (arith, c.if-left-eq0) in
     let i = l.invariant.0 in (
@@ -59,6 +56,6 @@ loop-left-preserved c =
       omega (arith, g.auto, l.invariant.1),
       record { place = omega arith; found = omega arith; additions = omega arith },
       (λ rest.
-          ap (rows_of (l.left - 1) t.t01 t.t11 t.t00 t.t01 t.t11) (m.0 rest _ ∙ ap (bump 1 l.a1) (g.ensures.0 rest))
+          ap (rows_of (l.left - 1) t.t01 t.t11 t.t00 t.t01 t.t11) (m.0 rest _ ∙ ap (bump 1 l.a1) (g.ensures.state rest))
           ∙ sym (rows_more t.t00 t.t01 t.t11 l.left l.a0 l.a1 (whole l.y rest l.list) h) ∙ l.invariant.3 rest),
     )

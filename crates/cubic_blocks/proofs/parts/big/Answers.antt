@@ -17,7 +17,7 @@ nine-y-requires c =
     let l = c.loop-left in
     let f = l.invariant.3 in
     let z = c.requires.found_in_bounds in
-    (f, (omega (arith, l.invariant.0, l.invariant.1, l.invariant.2, z), omega (arith, l.invariant.0, l.invariant.2, z), omega (arith, l.invariant.0, l.invariant.2, z)))
+    record { fits = f; found_in_bounds = (omega (arith, l.invariant.0, l.invariant.1, l.invariant.2, z), omega (arith, l.invariant.0, l.invariant.2, z), omega (arith, l.invariant.0, l.invariant.2, z)) }
 
 pub shape_of-list-then-left-eq0 : goal.shape_of-list-then-left-eq0
 shape_of-list-then-left-eq0 c = omega (arith, c.nine-y.auto, c.loop-left.invariant.1)
@@ -29,12 +29,9 @@ returns-then-left-eq0 c =
     let a = c.args in
     let E = entry a.table.now in
     let w = l.invariant.2 in
-    let e = g.ensures.1 in (
-      (λ rest.
-          g.ensures.0 rest ∙ sym (legs_none E a.k l.at l.q (whole l.y rest l.seconds l.list))
-          ∙ ap (λ (j : ℕ). legs_of E a.k j l.at l.q (whole l.y rest l.seconds l.list)) (sym c.if-left-eq0.true) ∙ l.invariant.4 rest),
-      record { place = omega (arith, c.if-left-eq0); found = omega (arith, c.if-left-eq0); additions = omega (arith, c.if-left-eq0) },
-    )
+    let e = g.ensures.went in record { state = (λ rest.
+          g.ensures.state rest ∙ sym (legs_none E a.k l.at l.q (whole l.y rest l.seconds l.list))
+          ∙ ap (λ (j : ℕ). legs_of E a.k j l.at l.q (whole l.y rest l.seconds l.list)) (sym c.if-left-eq0.true) ∙ l.invariant.4 rest); went = record { place = omega (arith, c.if-left-eq0); found = omega (arith, c.if-left-eq0); additions = omega (arith, c.if-left-eq0) } }
 
 pub overflow_add-e : goal.overflow_add-e
 overflow_add-e c = let f = c.loop-left.invariant.3 in omega (arith, f.room2, f.pair, c.well_formed.1.0)
@@ -69,7 +66,7 @@ loop-left-preserved c =
     let m = c.raise_slot-y.ensures in
     let t = c.vector.ensures in
     let w = l.invariant.2 in
-    let e = g.ensures.1 in
+    let e = g.ensures.went in
     let v = m.1 in
     let h : 0 < l.left = omega (arith, c.if-left-eq0) in
     let i = l.invariant.0 in (
@@ -79,7 +76,7 @@ loop-left-preserved c =
       fits_two l.invariant.3,
       (λ rest.
           ap (legs_of E a.k (l.left - 1) 2 (a.k.p2 + l.at))
-          (m.0 rest _ ∙ ap (bump 2 (37 + l.at) c.vector.result) (g.ensures.0 rest)
+          (m.0 rest _ ∙ ap (bump 2 (37 + l.at) c.vector.result) (g.ensures.state rest)
           ∙ ap (λ (x : Vector). bump 2 (37 + l.at) x (nine_of E a.k l.at l.q (whole l.y rest l.seconds l.list))) t)
           ∙ sym (legs_more E a.k l.left l.at l.q (whole l.y rest l.seconds l.list) h) ∙ l.invariant.4 rest),
     )

@@ -17,7 +17,7 @@ three-y-requires c =
     let l = c.loop-left in
     let f = l.invariant.3 in
     let z = c.requires.found_in_bounds in
-    ((omega (arith, f.room0, f.pair), omega (arith, f.room0, f.low, f.one), omega (arith, f.low, f.most)), (omega (arith, l.invariant.0, l.invariant.1, l.invariant.2, z), omega (arith, l.invariant.0, l.invariant.2, z), omega (arith, l.invariant.0, l.invariant.2, z)))
+    record { p_in_bounds = (omega (arith, f.room0, f.pair), omega (arith, f.room0, f.low, f.one), omega (arith, f.low, f.most)); found_in_bounds = (omega (arith, l.invariant.0, l.invariant.1, l.invariant.2, z), omega (arith, l.invariant.0, l.invariant.2, z), omega (arith, l.invariant.0, l.invariant.2, z)) }
 
 pub shape_of-list-then-left-eq0 : goal.shape_of-list-then-left-eq0
 shape_of-list-then-left-eq0 c = omega (arith, c.three-y.auto, c.loop-left.invariant.1)
@@ -30,12 +30,9 @@ returns-then-left-eq0 c =
     let a = c.args in
     let E = entry a.table.now in
     let w = l.invariant.2 in
-    let e = g.ensures.1 in (
-      (λ rest.
-          g.ensures.0 rest ∙ sym (rows_none E a.k l.at l.q (whole l.y rest l.seconds l.list))
-          ∙ ap (λ (j : ℕ). rows_of E a.k j l.at l.q (whole l.y rest l.seconds l.list)) (sym c.if-left-eq0.true) ∙ l.invariant.4 rest),
-      record { place = omega (arith, c.if-left-eq0); found = omega (arith, c.if-left-eq0); additions = omega (arith, c.if-left-eq0) },
-    )
+    let e = g.ensures.went in record { state = (λ rest.
+          g.ensures.state rest ∙ sym (rows_none E a.k l.at l.q (whole l.y rest l.seconds l.list))
+          ∙ ap (λ (j : ℕ). rows_of E a.k j l.at l.q (whole l.y rest l.seconds l.list)) (sym c.if-left-eq0.true) ∙ l.invariant.4 rest); went = record { place = omega (arith, c.if-left-eq0); found = omega (arith, c.if-left-eq0); additions = omega (arith, c.if-left-eq0) } }
 
 pub overflow_add-e : goal.overflow_add-e
 overflow_add-e c = let f = c.loop-left.invariant.3 in omega (arith, f.room1, f.pair, c.well_formed.1.0)
@@ -70,7 +67,7 @@ loop-left-preserved c =
     let m = c.raise_slot-y.ensures in
     let t = c.vector.ensures in
     let w = l.invariant.2 in
-    let e = g.ensures.1 in
+    let e = g.ensures.went in
     let v = m.1 in
     let h : 0 < l.left = omega (arith, c.if-left-eq0) in
     let i = l.invariant.0 in (
@@ -80,7 +77,7 @@ loop-left-preserved c =
       fits_one l.invariant.3,
       (λ rest.
           ap (rows_of E a.k (l.left - 1) 1 (a.k.p1 + l.at))
-          (m.0 rest _ ∙ ap (bump 1 (19 + l.at) c.vector.result) (g.ensures.0 rest)
+          (m.0 rest _ ∙ ap (bump 1 (19 + l.at) c.vector.result) (g.ensures.state rest)
           ∙ ap (λ (x : Vector). bump 1 (19 + l.at) x (three_of E a.k.k0 l.at l.q (whole l.y rest l.seconds l.list))) t)
           ∙ sym (rows_more E a.k l.left l.at l.q (whole l.y rest l.seconds l.list) h) ∙ l.invariant.4 rest),
     )

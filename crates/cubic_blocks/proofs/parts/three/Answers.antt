@@ -14,7 +14,7 @@ step0-requires c =
     let q = c.step0-b in
     let n = c.note-a in
     let z = c.requires in
-    ((omega (arith, z.0), omega arith), (omega (arith, q.ensures.1, q.auto, n.ensures.1, n.auto, z.1), omega (arith, q.ensures.1, n.ensures.1, z.1), omega (arith, q.ensures.1, n.ensures.1, z.1)))
+    record { e_in_bounds = (omega (arith, z.p_in_bounds), omega arith); found_in_bounds = (omega (arith, q.ensures.went, q.auto, n.ensures.went, n.auto, z.found_in_bounds), omega (arith, q.ensures.went, n.ensures.went, z.found_in_bounds), omega (arith, q.ensures.went, n.ensures.went, z.found_in_bounds)) }
 
 pub returns : goal.returns
 unfolding three_of
@@ -23,9 +23,6 @@ returns c =
     let q = c.step0-b.ensures in
     let n = c.note-a.ensures in
     let a = c.args in
-    let E = entry a.table.now in (
-      (λ rest.
+    let E = entry a.table.now in record { state = (λ rest.
           p.0 rest ∙ ap (λ (s : State). jot_of (bump 0 0 (E (a.k0 + a.c)) s))
-          (q.0 rest ∙ ap (λ (s : State). jot_of (bump 0 a.c (E (a.k0 + a.p)) s)) (ap (beside a.seconds.now) (n.0 rest) ∙ beside_note (λ p. p) a.seconds.now (flat.whole a.x rest a.list.now)))),
-      record { place = omega (arith, p.1, q.1, n.1); found = omega (arith, p.1, q.1, n.1); additions = omega (arith, p.1, q.1, n.1) },
-    )
+          (q.0 rest ∙ ap (λ (s : State). jot_of (bump 0 a.c (E (a.k0 + a.p)) s)) (ap (beside a.seconds.now) (n.0 rest) ∙ beside_note (λ p. p) a.seconds.now (flat.whole a.x rest a.list.now)))); went = record { place = omega (arith, p.1, q.1, n.1); found = omega (arith, p.1, q.1, n.1); additions = omega (arith, p.1, q.1, n.1) } }

@@ -1,6 +1,6 @@
 -- `cubic_tables::monomials::pair` meets its contract.
 use mathlib.Core.Path.{refl}
-use Prim.Native.Nat.{◌+◌, ◌*◌, ◌/◌, ◌≤◌, ◌<◌}
+use Prim.Native.Nat.{ℕ, ◌+◌, ◌*◌, ◌/◌, ◌≤◌, ◌<◌}
 use native.Mathlib.Omega.{arith}
 use Rattle.tables.proofs.IndexLaw.{product_le, half_le}
 use Rattle.cubic_tables.specs.Order.{pair_of}
@@ -8,25 +8,20 @@ use Rattle.cubic_tables.proofs.PairLaw.{pair_lt}
 use Rattle.cubic_tables.proofs.monomials.pair.Goals as goal
 
 -- the code's numbers are small
-small : (c : tie.Start) → (c.args.b * c.args.n ≤ 400) × (c.args.b * (c.args.b + 1) ≤ 420) × (c.args.b * (c.args.b + 1) / 2 ≤ c.args.b * c.args.n)
-small c =
-    let n = c.args.n in
-    let b = c.args.b in
-    let p : n ≤ 20 = c.requires.0 in
-    let q : b < n = omega (arith, c.requires.1, c.requires.2) in
-    (product_le b n (omega arith) p, omega (arith, product_le b b (omega arith) (omega arith)), half_le n b q)
+small : (n b : ℕ) → n ≤ 20 → b < n → (b * n ≤ 400) × (b * (b + 1) ≤ 420) × (b * (b + 1) / 2 ≤ b * n)
+small n b p q = (product_le b n (omega arith) p, omega (arith, product_le b b (omega arith) (omega arith)), half_le n b q)
 
 pub overflow_mul-result : goal.overflow_mul-result
-overflow_mul-result c = omega (arith, small c)
+overflow_mul-result c = omega (arith, small c.args.n c.args.b c.requires.0 (omega (arith, c.requires.1, c.requires.2)))
 
 pub overflow_mul-result-2 : goal.overflow_mul-result-2
-overflow_mul-result-2 c = omega (arith, small c)
+overflow_mul-result-2 c = omega (arith, small c.args.n c.args.b c.requires.0 (omega (arith, c.requires.1, c.requires.2)))
 
 pub overflow_sub-result : goal.overflow_sub-result
-overflow_sub-result c = omega (arith, small c)
+overflow_sub-result c = omega (arith, small c.args.n c.args.b c.requires.0 (omega (arith, c.requires.1, c.requires.2)))
 
 pub overflow_add-result-2 : goal.overflow_add-result-2
-overflow_add-result-2 c = omega (arith, small c, c.requires)
+overflow_add-result-2 c = omega (arith, small c.args.n c.args.b c.requires.0 (omega (arith, c.requires.1, c.requires.2)), c.requires)
 
 pub returns : goal.returns
 unfolding pair_of

@@ -11,7 +11,7 @@ use Rattle.cubic_walk.proofs.leaps.leaps.Goals as goal
 pub returns-then-not-ready : goal.returns-then-not-ready
 returns-then-not-ready c =
     let a = c.args in
-    (ap (λ (j : ℕ). search_of a.table.now a.n a.end j (state_of a.r a.list.now)) (omega arith), (c.requires.sane_2, (omega arith, omega arith)))
+    record { state = ap (λ (j : ℕ). search_of a.table.now a.n a.end j (state_of a.r a.list.now)) (omega arith); sane = c.requires.sane_2; less = (omega arith, omega arith) }
 
 pub keys-k-requires : goal.keys-k-requires
 keys-k-requires c =
@@ -136,10 +136,7 @@ block27-t-requires c =
     let f = first a.table.now a.n a.end c.requires.sized k o.1 v.result.position v.result.rest v.ensures.position v.ensures.whole v.ensures.above in
     let g = c.split-g in
     let h = seconds a.n l.x _ v.result.rest g.result.position g.result.rest f c.if-f-eq1.false g.ensures.position g.ensures.whole g.ensures.above in
-    let z = c.requires.sized in (
-      record { some = z.some; small = z.small; table = z.table; end = omega arith },
-      ((l.invariant.1, l.invariant.2 _ f.low), ((k.above, k.aligned, f.end, h.positions), ((f.three, omega arith, h.low, h.rest), (omega (arith, o, l.invariant.0, m), f.count)))),
-    )
+    let z = c.requires.sized in record { sized = record { some = z.some; small = z.small; table = z.table; end = omega arith }; k_value = (l.invariant.1, l.invariant.2 _ f.low); place_nonzero = (k.above, k.aligned, f.end, h.positions); le_b = (f.three, omega arith, h.low, h.rest); found_in_bounds = (omega (arith, o, l.invariant.0, m), f.count) }
 
 pub offset_bounds-slots-b-in-loop-k : goal.offset_bounds-slots-b-in-loop-k
 offset_bounds-slots-b-in-loop-k c =
@@ -202,4 +199,4 @@ returns c =
     let a = c.args in
     let k : length a.r.walker.slots ≡ 20 = simp length-map at c.well_formed.1.1.1.0.1.1.0.1.1.1.1.0.1.0.1 in
     let d = kept_done a.table.now a.n a.end c.requires.sized a.r c.closed.result k c.opened-x.ensures l.invariant.3 (c.closed.ensures l.list) in
-    (d.state, (d.sane, (d.from, d.most)))
+    record { state = d.state; sane = d.sane; less = (d.from, d.most) }

@@ -40,7 +40,7 @@ turn-h-requires c =
     let g = turns a.table.now a.n a.end c.requires.sized a.budget l.left (length a.list.now) _ _ _ l.invariant.1 refl c.going.ensures c.loop-f-test.true in
     let z = c.requires.sized in
     let v = c.split-f.ensures in
-    (record { some = z.some; small = z.small; table = z.table; end = omega arith }, (g.far, v.position, v.whole, g.count))
+    record { sized = record { some = z.some; small = z.small; table = z.table; end = omega arith }; place_bound = (g.far, v.position, v.whole, g.count) }
 
 pub offset_bounds-slots-b-in-loop-f : goal.offset_bounds-slots-b-in-loop-f
 offset_bounds-slots-b-in-loop-f c =
@@ -94,7 +94,7 @@ loop-f-preserved c =
     let h = c.turn-h in
     let m = c.mark-found in
     let T = triple_at a.table.now a.n in
-    let e = step_note T a.n st (headed st v.result.position h.result _) _ _ (h.ensures.0 st refl refl refl refl) m.ensures.0 m.ensures.1.0 in
+    let e = step_note T a.n st (headed st v.result.position h.result _) _ _ (h.ensures.state st refl refl refl refl) m.ensures.count m.ensures.list.0 in
     (l.invariant.0, walked_one 3 (walk_of a.n T) counts 3 (step_near (point_of 3 a.n) T) a.end a.budget l.left _ st _ l.invariant.1 g.goes e)
 
 pub returns : goal.returns
@@ -103,4 +103,4 @@ returns c =
     let a = c.args in
     let w = l.invariant.1 in
     let e = goes_no_more 3 (walk_of a.n (triple_at a.table.now a.n)) counts 3 a.end a.budget l.left (length a.list.now) _ _ _ w refl c.going.ensures c.loop-f-test.false in
-    (e, (record { place = w.sound.place; found = w.sound.found; additions = w.sound.additions }, (omega (arith, w.went, w.less), omega (arith, w.went))))
+    record { state = e; sane = record { place = w.sound.place; found = w.sound.found; additions = w.sound.additions }; less = (omega (arith, w.went, w.less), omega (arith, w.went)) }

@@ -22,7 +22,7 @@ overflow_mul-result c =
     omega (arith, c.requires)
 
 pub returns : goal.returns
-returns c =
+returns c = λ b e.
     let q = c.args.q in
     let w = c.args.power in
     ap (λ (x : ℕ). w * (x + 1) - 1) c.last_move-y.ensures ∙ ap (λ (x : ℕ). x * (last_of 3 (q / x) + 1) - 1) e ∙ before_place b q

@@ -27,7 +27,7 @@ loop-i-preserved c =
     )
 
 pub returns : goal.returns
-returns c =
+returns c = λ m p w z h.
     let a = c.args in
     let l = c.loop-i in
     let e : l.i ≡ a.n = omega (arith, l.invariant.1, c.loop-i-test.false) in

@@ -37,11 +37,11 @@ returns c =
     let x = c.call-o in
     let k = c.lent_words-k.result in
     let front : seconds_from a.degree (take k s) ≡ seconds_from a.degree s = ap (λ (i : ℕ). seconds_from a.degree (take i s)) h ∙ lent_front a.degree s long in
-    let kept : length x.new.1.1.1.1.1.0 ≡ lent_words a.degree = x.auto.1.1.1.1.1.0 ∙ length-take-le k s (omega (arith, h, lent_most a.degree, long)) ∙ h in
+    let kept : length x.new.seconds ≡ lent_words a.degree = x.auto.seconds ∙ length-take-le k s (omega (arith, h, lent_most a.degree, long)) ∙ h in
     let g = (table_with a.degree a.n a.m a.table.now) in
     let e = c.first_for-f.ensures in
-    let j = parts_joined a.degree a.n a.m a.table.now a.r long (take k s) front a.budget a.list.now x.result _ x.new.1.1.1.1.1.0
+    let j = parts_joined a.degree a.n a.m a.table.now a.r long (take k s) front a.budget a.list.now x.result _ x.new.seconds
     (x.ensures.0 ∙ ap (λ (f : First). outcome_of g (whole_of a.degree f (take k s)) a.budget a.list.now) e)
     (x.ensures.1 ∙ ap (λ (f : First). list_left g (whole_of a.degree f (take k s)) a.budget a.list.now) e) kept in
-    let i = c.joined.ensures ∙ ap (λ (i : ℕ). joined_of x.result.answer x.result.first a.r (x.new.1.1.1.1.1.0 ++ drop i s)) h ∙ j.0 in
+    let i = c.joined.ensures ∙ ap (λ (i : ℕ). joined_of x.result.answer x.result.first a.r (x.new.seconds ++ drop i s)) h ∙ j.0 in
     (i, j.1, tells_of g a.r a.budget a.list.now _ i)

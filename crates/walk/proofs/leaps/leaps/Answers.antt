@@ -11,13 +11,13 @@ use Rattle.walk.proofs.leaps.leaps.Goals as goal
 pub returns-then-not-ready : goal.returns-then-not-ready
 returns-then-not-ready c =
     let a = c.args in
-    (ap (λ (j : ℕ). search_of a.table.now a.n a.end j (state_of a.r a.list.now)) (omega arith), (c.requires.sane_2, (omega arith, omega arith)))
+    record { state = ap (λ (j : ℕ). search_of a.table.now a.n a.end j (state_of a.r a.list.now)) (omega arith); sane = c.requires.sane_2; less = (omega arith, omega arith) }
 
 pub tops-top-requires : goal.tops-top-requires
 tops-top-requires c =
     let z = c.requires.sized in
     let y = c.ready.ensures (not-false _ c.if-not-ready.false-raw) in
-    (record { some = z.some; small = z.small; table = z.table; end = omega arith }, omega (arith, y))
+    record { sized = record { some = z.some; small = z.small; table = z.table; end = omega arith }; le_n = omega (arith, y) }
 
 pub loop-top-init : goal.loop-top-init
 loop-top-init c =
@@ -73,10 +73,7 @@ block27-t-requires c =
     let o = c.room.ensures c.loop-top-test.true in
     let v = c.split-f in
     let f = fits a.table.now a.n a.end c.requires.sized k o.1 v.result.position v.result.rest v.ensures.position v.ensures.whole in
-    let z = c.requires.sized in (
-      record { some = z.some; small = z.small; table = z.table; end = omega arith },
-      (c.tops-top.ensures, ((k.above, k.aligned, f.end, f.first, f.whole), (omega (arith, o, l.invariant.0, m), f.count))),
-    )
+    let z = c.requires.sized in record { sized = record { some = z.some; small = z.small; table = z.table; end = omega arith }; top_value = c.tops-top.ensures; place_nonzero = (k.above, k.aligned, f.end, f.first, f.whole); found_in_bounds = (omega (arith, o, l.invariant.0, m), f.count) }
 
 pub offset_bounds-slots-b-in-loop-top : goal.offset_bounds-slots-b-in-loop-top
 offset_bounds-slots-b-in-loop-top c =
@@ -139,4 +136,4 @@ returns c =
     let a = c.args in
     let k : length a.r.walker.slots ≡ 20 = simp length-map at c.well_formed.1.1.1.0.1.1.0.1.1.1.1.0.1.0.1 in
     let d = kept_done a.table.now a.n a.end c.requires.sized a.r c.closed.result k c.opened-x.ensures l.invariant.1 (c.closed.ensures l.list) in
-    (d.state, (d.sane, (d.from, d.most)))
+    record { state = d.state; sane = d.sane; less = (d.from, d.most) }

@@ -6,12 +6,12 @@ use borrow.Author.Tests.{eqb-true}
 use Rattle.walk.proofs.leaps.ready.Goals as goal
 
 pub returns-then-n-lt4 : goal.returns-then-n-lt4
-returns-then-n-lt4 c = absurd (false≢true e)
+returns-then-n-lt4 c = λ e. absurd (false≢true e)
 
 pub returns-then-place-eq0 : goal.returns-then-place-eq0
-returns-then-place-eq0 c = absurd (false≢true e)
+returns-then-place-eq0 c = λ e. absurd (false≢true e)
 
 pub returns : goal.returns
-returns c =
+returns c = λ e.
     let a = c.args in
     omega (arith, eqb-true (a.place % 27) 0 e)

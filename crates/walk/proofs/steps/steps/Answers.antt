@@ -36,10 +36,7 @@ head-h-requires c =
     let a = c.args in
     let g = goes_on a.table.now a.n a.end a.budget l.left (length a.list.now) _ _ _ c.requires.sized l.invariant.1 refl c.going.ensures c.loop-f-test.true in
     let z = c.requires.sized in
-    let v = c.split-f.ensures in (
-      record { some = z.some; small = z.small; table = z.table; end = omega arith },
-      (omega (arith, g.place, z.end), v.position, v.whole, g.count),
-    )
+    let v = c.split-f.ensures in record { sized = record { some = z.some; small = z.small; table = z.table; end = omega arith }; place_bound = (omega (arith, g.place, z.end), v.position, v.whole, g.count) }
 
 pub offset_bounds-slots-b-in-loop-f : goal.offset_bounds-slots-b-in-loop-f
 offset_bounds-slots-b-in-loop-f c =
@@ -95,7 +92,7 @@ loop-f-preserved c =
     let m = c.mark-found in
     let T = product a.table.now a.n in
     let b : v.result.position < length l.slots = omega (arith, g.low, v.ensures.position, c.requires.sized.small, w.size) in
-    let e = step_note a.n T st (headed st v.result.position h.result) _ _ (h.ensures.0 st refl refl refl b) m.ensures.0 m.ensures.1.0 in
+    let e = step_note a.n T st (headed st v.result.position h.result) _ _ (h.ensures.state st refl refl refl b) m.ensures.count m.ensures.list.0 in
     (l.invariant.0, walked_one a.table.now a.n a.end a.budget l.left _ st _ w g e)
 
 pub returns : goal.returns
@@ -104,4 +101,4 @@ returns c =
     let a = c.args in
     let w = l.invariant.1 in
     let e = goes_no_more a.table.now a.n a.end a.budget l.left (length a.list.now) _ _ _ w refl c.going.ensures c.loop-f-test.false in
-    (e, (record { place = w.place; found = w.found; additions = w.additions }, (omega (arith, w.went, w.less), omega (arith, w.went))))
+    record { state = e; sane = record { place = w.place; found = w.found; additions = w.additions }; less = (omega (arith, w.went, w.less), omega (arith, w.went)) }

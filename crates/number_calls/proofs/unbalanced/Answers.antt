@@ -1,0 +1,36 @@
+-- `number_calls::unbalanced` meets its contract: the room is refused, or the answer says all.
+use mathlib.Core.Path.{ap, ◌∙◌}
+use mathlib.Core.List.{[], ◌∷◌}
+use lib.IntN.{ℤ}
+use mir.Syntax.{w64}
+use mir.ValLaws.{to_z-of_z}
+use lib.ListN.{length}
+use Rattle.gray.specs.declared.PointAnswer.{PointAnswer}
+use Rattle.gray.specs.Answers.{point_from, point_told}
+use Rattle.balanced.specs.Balanced.{unbalanced_of}
+use Rattle.balanced.specs.Answers.{balanced_verdict}
+use Rattle.lent.specs.Lent.{single, point_put}
+use Rattle.lent.proofs.LentLaw.{stopped, passed, answered, single_refused, single_done, point_meets}
+use Rattle.number_calls.proofs.unbalanced.Goals as goal
+
+pub returns-then-refused-ne0 : goal.returns-then-refused-ne0
+returns-then-refused-ne0 c =
+    let a = c.args in
+    let l = a.point.now in
+    stopped (single a.n (length l)) (single_refused a.n (length l)) _ c.room_for_one-v.ensures _ c.code-refused.ensures c.if-refused-ne0.true (balanced_verdict a.n a.number) l (unbalanced_of a.n a.number ∷ [])
+
+pub put_point-requires : goal.put_point-requires
+put_point-requires c =
+    let a = c.args in
+    (single_done a.n (length a.point.now) (passed _ _ c.room_for_one-v.ensures _ c.code-refused.ensures c.if-refused-ne0.false)).0
+
+pub returns : goal.returns
+returns c =
+    let a = c.args in
+    let l = a.point.now in
+    let h = single_done a.n (length l) (passed _ _ c.room_for_one-v.ensures _ c.code-refused.ensures c.if-refused-ne0.false) in
+    let u = balanced_verdict a.n a.number in
+    let x = unbalanced_of a.n a.number in
+    answered (λ (z : PointAnswer). (point_told z).0) (λ (z : PointAnswer). point_put z l) (single a.n (length l) u) u (h.1 u) _ _
+    (c.from_balanced-a.ensures.answer ∙ ap (λ (z : ℤ). point_from (balanced_verdict a.n z) (unbalanced_of a.n z)) (to_z-of_z w64 a.number c.ranges.number))
+    _ _ l (x ∷ []) c.put_point.ensures (point_meets u x l)
