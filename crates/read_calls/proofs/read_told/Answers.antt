@@ -23,7 +23,7 @@ returns-then-told-ne-TOLD_WORDS c =
     let t = a.text.now in
     let w = length a.words.now in
     let d = length a.told.now in
-    told_refused (call_of t w d) why.Length 0 c.numbered-then-told-ne-TOLD_WORDS.result a.words.now a.told.now (call_told t w d c.if-text-gt-TEXT_MOST.false c.if-told-ne-TOLD_WORDS.true) c.numbered-then-told-ne-TOLD_WORDS.ensures
+    told_refused (call_of t w d) why.Length 0 c.numbered-then-told-ne-TOLD_WORDS.result a.words.now a.told.now (call_told t w d c.if-text-gt-TEXT_MOST.false (omega arith)) c.numbered-then-told-ne-TOLD_WORDS.ensures
 
 pub numbered-requires-in-Refused : goal.numbered-requires-in-Refused
 numbered-requires-in-Refused c =
@@ -34,7 +34,7 @@ numbered-requires-in-Refused c =
     text_line t w _ _ c.if-text-gt-TEXT_MOST.false (refused_is (outcome_of t w) _ _ (sym c.read-answer.ensures.0 ∙ c.in-Refused.is))
 
 pub bounds-told-1 : goal.bounds-told-1
-bounds-told-1 c = simp length-set (omega (arith, c.if-told-ne-TOLD_WORDS.false))
+bounds-told-1 c = simp length-set (omega arith)
 
 pub returns-in-Refused : goal.returns-in-Refused
 returns-in-Refused c =
@@ -42,7 +42,7 @@ returns-in-Refused c =
     let t = a.text.now in
     let w = length a.words.now in
     let d = length a.told.now in
-    let s = call_reads t w d c.if-text-gt-TEXT_MOST.false c.if-told-ne-TOLD_WORDS.false in
+    let s = call_reads t w d c.if-text-gt-TEXT_MOST.false (omega arith) in
     let r = c.read-answer.ensures in
     let g = refused_is (outcome_of t w) _ _ (sym r.0 ∙ c.in-Refused.is) in
     let q = told_refused (call_of t w d) _ _ c.numbered-in-Refused.result a.words.now a.told.now (s ∙ g) c.numbered-in-Refused.ensures in
@@ -54,8 +54,8 @@ returns-in-Graph c =
     let t = a.text.now in
     let w = length a.words.now in
     let d = length a.told.now in
-    let s = call_reads t w d c.if-text-gt-TEXT_MOST.false c.if-told-ne-TOLD_WORDS.false in
+    let s = call_reads t w d c.if-text-gt-TEXT_MOST.false (omega arith) in
     let r = c.read-answer.ensures in
     let g = graph_is (outcome_of t w) _ _ (sym r.0 ∙ c.in-Graph.is) in
-    let q = told_graph (call_of t w d) _ _ g.0 a.told.now (s ∙ g.1) g.2 c.if-told-ne-TOLD_WORDS.false in
+    let q = told_graph (call_of t w d) _ _ g.0 a.told.now (s ∙ g.1) g.2 (omega arith) in
     (q.0, r.1 ∙ ap (λ (o : Outcome). words_after o a.words.now) (sym s), q.1)
