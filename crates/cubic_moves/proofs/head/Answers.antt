@@ -42,10 +42,10 @@ returns c =
           ∙ ap (headed st a.b _) (hw ∙ sym o.0))
           (λ e.
           let h : 0 < a.rest = omega arith in
-          let o = u.ensures.three.0 h in
+          let o = u.ensures.three h in
           head_three T a.b a.c a.rest st _ u.result.vector _ h
           (o.0 ∙ ap (λ (w : List ℕ). put_at w c.pair-k.result u.result.vector) (sym hw) ∙ ap (λ (m : ℕ). put_at st.seconds m u.result.vector) k)
           (o.1 ∙ ap (λ (w : List ℕ). add_of (entry w c.pair-k.result) (entry a.table.now (a.kb + pair_of a.n a.c (a.c + lowest_of 3 a.rest)))) (sym hw)
           ∙ ap (λ (m : ℕ). add_of (entry st.seconds m) (entry a.table.now (a.kb + pair_of a.n a.c (a.c + lowest_of 3 a.rest)))) k
           ∙ ap (λ (m : ℕ). add_of (entry st.seconds (pair_of 20 a.b a.c)) (entry a.table.now (m + pair_of a.n a.c (a.c + lowest_of 3 a.rest)))) z.0)
-          ps qv (omega (arith, o.2, p.2, ha)))); count = omega (arith, u.ensures.three.1, p.2) }
+          ps qv (omega (arith, o.2, p.2, ha)))); count = omega (arith, u.ensures.count, p.2) }

@@ -66,4 +66,4 @@ returns c =
     let o : 1 < a.rest = omega (arith, c.if-rest-eq1, c.if-rest-eq0) in
     let w = heads a.n a.place a.b a.rest _ _ q.0 q.1 q.2 o g.position g.whole (g.above (omega arith)) in
     let h = c.head.ensures in
-    record { state = (λ st hv ha hw hs. ap (λ (ps : List ℕ). move_of (triple_at a.table.now a.n) ps st) w.positions ∙ h.0 st hv ha hw hs); count = h.1 }
+    record { state = (λ st hv ha hw hs. ap (λ (ps : List ℕ). move_of (triple_at a.table.now a.n) ps st) w.positions ∙ h.state st hv ha hw hs); count = h.count }

@@ -31,8 +31,7 @@ value_at-requires c =
 pub returns-in-Refused : goal.returns-in-Refused
 returns-in-Refused c =
     let a = c.args in
-    let v = c.verdict-1.given in
-    let e = sym (value_refused (count_of a.n) a.n a.m a.coefficients.now a.x.0 (values_at a.n a.m a.coefficients.now a.x.0) v.0.0 (sym c.check-verdict.ensures.answer ∙ v.1)) in
+    let e = sym (value_refused (count_of a.n) a.n a.m a.coefficients.now a.x.0 (values_at a.n a.m a.coefficients.now a.x.0) c.in-Refused.r (sym c.check-verdict.ensures.answer ∙ c.in-Refused.is)) in
     (e, tells_of (evaluate_verdict a.n a.m a.coefficients.now a.x.0) (values_at a.n a.m a.coefficients.now a.x.0) _ e)
 
 pub returns-else-x-power : goal.returns-else-x-power

@@ -51,7 +51,10 @@ returns c =
     let u = second a.place a.b a.rest q.2 o in
     let h : 0 < a.place = above a.place a.b a.rest q.2 (omega arith) in
     let v = c.raise.ensures in
-    let g = c.split-f in record { state = (λ st hv ha hs l.
+    let g = c.split-f in record {
+      state = (λ st hv ha hs l.
           head_two a.n (product a.table.now a.n) a.place a.b (a.b + g.result.position) st _ h q.1 u.0
           (ap (λ (x : ℕ). a.b + x) g.ensures.position ∙ sym u.1) l
-          (v.0 ∙ rw (hs, c.entry-t.ensures)) (v.1 ∙ rw (hv, v.0)) (omega (arith, v.2))); count = omega (arith, v.2) }
+          (v.0 ∙ rw (hs, c.entry-t.ensures)) (v.1 ∙ rw (hv, v.0)) (omega (arith, v.2)));
+      count = omega (arith, v.2);
+    }

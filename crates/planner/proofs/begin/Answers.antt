@@ -25,12 +25,11 @@ pub start-requires : goal.start-requires
 start-requires c =
     let r = c.read-answer in
     let x = c.args.input.now in
-    let g = c.answer-in-Graph-1.given in
     let k = c.words-size in
-    let e = sym g.1 ∙ r.ensures.0 ∙ ap (λ (w : ℕ). answer_of (outcome_of x w)) c.requires.0 in
+    let e = sym c.in-Graph.is ∙ r.ensures.0 ∙ ap (λ (w : ℕ). answer_of (outcome_of x w)) c.requires.0 in
     let q = r.ensures.1 ∙ ap (λ (w : ℕ). words_after (outcome_of x w) c.args.words.now) c.requires.0 in
     let l = length-take-le k.result c.args.table.now (omega (arith, k.ensures.1, c.requires.1)) in (
-      rw k.ensures.0 (startable x _ _ e c.args.words.now r.new.words (take (2 * count_of g.0.0) c.args.table.now) q (rw k.ensures.0 at (l ∙ k.ensures.0))),
+      rw k.ensures.0 (startable x _ _ e c.args.words.now r.new.words (take (2 * count_of c.in-Graph.n) c.args.table.now) q (rw k.ensures.0 at (l ∙ k.ensures.0))),
       omega (arith, c.requires.2),
     )
 
@@ -46,9 +45,8 @@ pub returns-in-Graph : goal.returns-in-Graph
 returns-in-Graph c =
     let r = c.read-answer in
     let x = c.args.input.now in
-    let g = c.answer-in-Graph-1.given in
     let k = c.words-size in
-    let e = sym g.1 ∙ r.ensures.0 ∙ ap (λ (w : ℕ). answer_of (outcome_of x w)) c.requires.0 in
+    let e = sym c.in-Graph.is ∙ r.ensures.0 ∙ ap (λ (w : ℕ). answer_of (outcome_of x w)) c.requires.0 in
     let q = r.ensures.1 ∙ ap (λ (w : ℕ). words_after (outcome_of x w) c.args.words.now) c.requires.0 in
     let s = c.start in
     let l = length-take-le k.result c.args.table.now (omega (arith, k.ensures.1, c.requires.1)) in

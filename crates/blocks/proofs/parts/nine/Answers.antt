@@ -49,13 +49,13 @@ loop-left-preserved c =
     let m = c.raise_slot-y.ensures in
     let w = l.invariant.2 in
     let e = g.ensures.went in
-    let v = m.1 in
+    let v = m.went in
     let h : 0 < l.left = omega (arith, c.if-left-eq0) in
     let i = l.invariant.0 in (
       omega arith,
       omega (arith, g.auto, l.invariant.1),
       record { place = omega arith; found = omega arith; additions = omega arith },
       (λ rest.
-          ap (rows_of (l.left - 1) t.t01 t.t11 t.t00 t.t01 t.t11) (m.0 rest _ ∙ ap (bump 1 l.a1) (g.ensures.state rest))
+          ap (rows_of (l.left - 1) t.t01 t.t11 t.t00 t.t01 t.t11) (m.state rest _ ∙ ap (bump 1 l.a1) (g.ensures.state rest))
           ∙ sym (rows_more t.t00 t.t01 t.t11 l.left l.a0 l.a1 (whole l.y rest l.list) h) ∙ l.invariant.3 rest),
     )

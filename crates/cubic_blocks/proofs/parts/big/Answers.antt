@@ -67,7 +67,7 @@ loop-left-preserved c =
     let t = c.vector.ensures in
     let w = l.invariant.2 in
     let e = g.ensures.went in
-    let v = m.1 in
+    let v = m.went in
     let h : 0 < l.left = omega (arith, c.if-left-eq0) in
     let i = l.invariant.0 in (
       omega arith,
@@ -76,7 +76,7 @@ loop-left-preserved c =
       fits_two l.invariant.3,
       (λ rest.
           ap (legs_of E a.k (l.left - 1) 2 (a.k.p2 + l.at))
-          (m.0 rest _ ∙ ap (bump 2 (37 + l.at) c.vector.result) (g.ensures.state rest)
+          (m.state rest _ ∙ ap (bump 2 (37 + l.at) c.vector.result) (g.ensures.state rest)
           ∙ ap (λ (x : Vector). bump 2 (37 + l.at) x (nine_of E a.k l.at l.q (whole l.y rest l.seconds l.list))) t)
           ∙ sym (legs_more E a.k l.left l.at l.q (whole l.y rest l.seconds l.list) h) ∙ l.invariant.4 rest),
     )

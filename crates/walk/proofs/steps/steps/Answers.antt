@@ -92,7 +92,7 @@ loop-f-preserved c =
     let m = c.mark-found in
     let T = product a.table.now a.n in
     let b : v.result.position < length l.slots = omega (arith, g.low, v.ensures.position, c.requires.sized.small, w.size) in
-    let e = step_note a.n T st (headed st v.result.position h.result) _ _ (h.ensures.state st refl refl refl b) m.ensures.count m.ensures.list.0 in
+    let e = step_note a.n T st (headed st v.result.position h.result) _ _ (h.ensures.state st refl refl refl b) m.ensures.count m.ensures.list in
     (l.invariant.0, walked_one a.table.now a.n a.end a.budget l.left _ st _ w g e)
 
 pub returns : goal.returns
