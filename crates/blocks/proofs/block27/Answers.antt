@@ -70,8 +70,10 @@ returns c =
     let l = a.list.now in
     let b = a.b in
     let u : 3 ≤ b = omega (arith, q) in
-    λ rest hs hl.
-    let m = g.ensures.state (whole a.x rest l) refl refl (get3 a.x.s0 a.x.s1 a.x.s2 rest b u ∙ hs) (omega arith) in
-    block27_is a.n (product a.table.now a.n) a.x r.result rest l _ _ b g.result q.0 q.1 q.3 c.requires.found_in_bounds.0 m
-    (r.ensures.state (set rest (b - 3) g.result.slot) ∙ rw (c.entry-t0h.ensures, c.entry-t1h.ensures, c.entry-t2h.ensures, c.requires.top_value))
-    c.points.ensures
+    record {
+      state = λ rest hs hl.
+          let m = g.ensures.state (whole a.x rest l) refl refl (get3 a.x.s0 a.x.s1 a.x.s2 rest b u ∙ hs) (omega arith) in
+          block27_is a.n (product a.table.now a.n) a.x r.result rest l _ _ b g.result q.0 q.1 q.3 c.requires.found_in_bounds.0 m
+          (r.ensures.state (set rest (b - 3) g.result.slot) ∙ rw (c.entry-t0h.ensures, c.entry-t1h.ensures, c.entry-t2h.ensures, c.requires.top_value))
+          c.points.ensures;
+    }

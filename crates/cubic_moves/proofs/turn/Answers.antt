@@ -1,7 +1,7 @@
 -- `cubic_moves::turn` meets its contract: by the number of positions, none, one, or more.
 use mathlib.Core.Path.{◌≡◌, sym, ap, ◌∙◌}
 use mathlib.Core.List.{List}
-use Prim.Native.Nat.{ℕ, ◌-◌, ◌*◌, ◌^◌, ◌<◌}
+use Prim.Native.Nat.{ℕ, ◌*◌, ◌^◌, ◌<◌}
 use native.Mathlib.Nat.{mul-zero}
 use native.Mathlib.Omega.{arith}
 use Rattle.moves.proofs.MoveLaw.{above, alone, first_lt}
@@ -23,8 +23,11 @@ returns-then-rest-eq1 c =
     let q = c.requires.place_bound in
     let v = c.plus-v.ensures in
     let z = alone a.place a.b (q.2 ∙ ap (λ (x : ℕ). 3 ^ a.b * x) c.if-rest-eq1.true) in
-    let h : 0 < a.place = above a.place a.b a.rest q.2 (omega (arith, c.if-rest-eq1)) in record { state = (λ st hv ha hw hs.
-          turn_one (triple_at a.table.now a.n) a.place a.b st _ h q.1 z (sym hs) (v.0 ∙ rw (hv, hs)) (omega (arith, v.1, ha)) ∙ ap (headed st a.b _) hw); count = omega (arith, v.1) }
+    let h : 0 < a.place = above a.place a.b a.rest q.2 (omega (arith, c.if-rest-eq1)) in record {
+      state = (λ st hv ha hw hs.
+          turn_one (triple_at a.table.now a.n) a.place a.b st _ h q.1 z (sym hs) (v.0 ∙ rw (hv, hs)) (omega (arith, v.1, ha)) ∙ ap (headed st a.b _) hw);
+      count = omega (arith, v.1);
+    }
 
 pub overflow_add-c : goal.overflow_add-c
 overflow_add-c c =

@@ -22,9 +22,12 @@ returns-then-left-eq0 c =
     let l = c.loop-left in
     let a = c.args in
     let w = l.invariant.2 in
-    let e = g.ensures.went in record { state = (λ rest.
+    let e = g.ensures.went in record {
+      state = (λ rest.
           g.ensures.state rest ∙ sym (legs_none l.a0 l.a1 l.a2 a.top (whole l.y rest l.list))
-          ∙ ap (λ (k : ℕ). legs_of k l.a0 l.a1 l.a2 a.top (whole l.y rest l.list)) (sym c.if-left-eq0.true) ∙ l.invariant.3 rest); went = record { place = omega (arith, c.if-left-eq0); found = omega (arith, c.if-left-eq0); additions = omega (arith, c.if-left-eq0) } }
+          ∙ ap (λ (k : ℕ). legs_of k l.a0 l.a1 l.a2 a.top (whole l.y rest l.list)) (sym c.if-left-eq0.true) ∙ l.invariant.3 rest);
+      went = record { place = omega (arith, c.if-left-eq0); found = omega (arith, c.if-left-eq0); additions = omega (arith, c.if-left-eq0) };
+    }
 
 pub raise_slot-y-requires : goal.raise_slot-y-requires
 raise_slot-y-requires c =

@@ -24,9 +24,12 @@ returns-then-left-eq0 c =
     let a = c.args in
     let t = a.top in
     let w = l.invariant.2 in
-    let e = g.ensures.went in record { state = (λ rest.
+    let e = g.ensures.went in record {
+      state = (λ rest.
           g.ensures.state rest ∙ sym (rows_none t.t00 t.t01 t.t11 l.a0 l.a1 (whole l.y rest l.list))
-          ∙ ap (λ (k : ℕ). rows_of k l.a0 l.a1 t.t00 t.t01 t.t11 (whole l.y rest l.list)) (sym c.if-left-eq0.true) ∙ l.invariant.3 rest); went = record { place = omega (arith, c.if-left-eq0); found = omega (arith, c.if-left-eq0); additions = omega (arith, c.if-left-eq0) } }
+          ∙ ap (λ (k : ℕ). rows_of k l.a0 l.a1 t.t00 t.t01 t.t11 (whole l.y rest l.list)) (sym c.if-left-eq0.true) ∙ l.invariant.3 rest);
+      went = record { place = omega (arith, c.if-left-eq0); found = omega (arith, c.if-left-eq0); additions = omega (arith, c.if-left-eq0) };
+    }
 
 pub raise_slot-y-requires : goal.raise_slot-y-requires
 raise_slot-y-requires c =
