@@ -21,12 +21,11 @@ value_at-value-requires c =
     ((within (quadratic c.args.n c.args.m c.args.table.now) c.requires.0).most, c.coefficients_into.auto.to ∙ c.requires.2)
 
 pub slots-slots-requires : goal.slots-slots-requires
-slots-slots-requires c =
-    (
-      (within (quadratic c.args.n c.args.m c.args.table.now) c.requires.0).most,
-      omega (arith, c.latest_place-q.ensures, c.requires.1, power_small (quadratic c.args.n c.args.m c.args.table.now) c.requires.0),
-      c.coefficients_into.auto.to ∙ c.requires.2,
-    )
+slots-slots-requires c = (
+  (within (quadratic c.args.n c.args.m c.args.table.now) c.requires.0).most,
+  omega (arith, c.latest_place-q.ensures, c.requires.1, power_small (quadratic c.args.n c.args.m c.args.table.now) c.requires.0),
+  c.coefficients_into.auto.to ∙ c.requires.2,
+)
 
 pub returns : goal.returns
 returns c =
