@@ -179,7 +179,7 @@ class Turner:
             return self.path(need_place, at, rest)
 
         text = re.sub(r"(?<![\w'.\-₀-₉])(" + WORD + r")((?:\." + WORD + r")*)", lambda m: one(m) if m.group(1) in alias else m.group(0), text)
-        return self.parts(self.given(text))
+        return self.parts(self.locals(self.given(text)))
 
     def given(self, text):
         """A let of what an arm was given: its parts are fields of the arm."""
@@ -194,6 +194,19 @@ class Turner:
             for new, old, path in sorted(arm[2], key=lambda q: -len(q[2])):
                 if norm(old) == norm(p[2][0]) and path[:1] == ["given"] and len(path) > 1:
                     text = re.sub(r"(?<![\w'.\-])" + re.escape(".".join([m.group(1)] + path[1:])) + r"(?![\w'.\-]*\d)", ".".join(["c", arm[0], new]), text)
+        return text
+
+    def locals(self, text):
+        """Arguments that went by a number of the code's own go by their names."""
+        to = {}
+        for old, new in self.e["args"]:
+            if old.startswith(".args ."):
+                to[old[7:]] = new[7:]
+        if not to:
+            return text
+        heads = ["c.args"] + [m.group(1) for m in re.finditer(r"let (" + WORD + r") = c\.args in\b", text)]
+        for h in heads:
+            text = re.sub(r"(?<![\w'.\-])" + re.escape(h) + r"\.(t\d+)(?![\w])", lambda m: h + "." + to.get(m.group(1), m.group(1)), text)
         return text
 
     def parts(self, text):
