@@ -66,6 +66,18 @@ def blocks(text):
     return comments, uses, out
 
 
+def clause_path(fields, rest):
+    """The name of the clause that projections of nested pairs lead to, and the projections after it."""
+    k = 0
+    while k < len(fields) - 1 and rest:
+        if rest[0] == "0":
+            return [fields[k]] + rest[1:]
+        if rest[0] != "1":
+            return [fields[k + int(rest[0])]] + rest[1:] if rest[0].isdigit() and k + int(rest[0]) < len(fields) else rest
+        rest, k = rest[1:], k + 1
+    return [fields[k]] + rest if k == len(fields) - 1 else rest
+
+
 class Turner:
     def __init__(self, entry, where):
         self.e = entry
@@ -102,13 +114,13 @@ class Turner:
                     break
             clause = self.e["clauses"][self.places[at][0]] if self.places[at][0] < len(self.e["clauses"]) else None
             if clause and len(rest) > 1 and rest[0] == "ensures" and rest[1].isdigit():
-                rest = [rest[0], clause["fields"][int(rest[1])]] + rest[2:]
+                rest = [rest[0]] + clause_path(clause["fields"], rest[1:])
             return ".".join(["c", p[2][1]] + rest)
         for var, old in (self.e["typed"][self.places[at][0]] if self.places[at][0] < len(self.e["typed"]) else []):
             if norm(old) == norm(X):
                 return ".".join(["c", "type_inv", var] + rest)
         if X == "requires" and rest and rest[0].isdigit() and self.e.get("pre"):
-            rest = [self.e["pre"]["fields"][int(rest[0])]] + rest[1:]
+            rest = clause_path(self.e["pre"]["fields"], rest)
         while X == "before" and rest:
             X, rest = rest[0], rest[1:]
         if norm(X) in ("args", "requires", "ranges", "well_formed", "utf8"):
@@ -123,7 +135,7 @@ class Turner:
                         break
                 clause = self.e["clauses"][self.places[name][0]] if self.places[name][0] < len(self.e["clauses"]) else None
                 if clause and len(rest) > 1 and rest[0] == "ensures" and rest[1].isdigit():
-                    rest = [rest[0], clause["fields"][int(rest[1])]] + rest[2:]
+                    rest = [rest[0]] + clause_path(clause["fields"], rest[1:])
                 return ".".join(["c", q[2][1]] + rest)
         self.left.append(f"{self.where}: no step {X} at {at}")
         return ".".join(["c", X] + rest)
@@ -167,7 +179,7 @@ class Turner:
             return self.path(need_place, at, rest)
 
         text = re.sub(r"(?<![\w'.\-₀-₉])(" + WORD + r")((?:\." + WORD + r")*)", lambda m: one(m) if m.group(1) in alias else m.group(0), text)
-        return self.parts(self.given(text))
+        return self.parts(self.locals(self.given(text)))
 
     def given(self, text):
         """A let of what an arm was given: its parts are fields of the arm."""
@@ -184,6 +196,19 @@ class Turner:
                     text = re.sub(r"(?<![\w'.\-])" + re.escape(".".join([m.group(1)] + path[1:])) + r"(?![\w'.\-]*\d)", ".".join(["c", arm[0], new]), text)
         return text
 
+    def locals(self, text):
+        """Arguments that went by a number of the code's own go by their names."""
+        to = {}
+        for old, new in self.e["args"]:
+            if old.startswith(".args ."):
+                to[old[7:]] = new[7:]
+        if not to:
+            return text
+        heads = ["c.args"] + [m.group(1) for m in re.finditer(r"let (" + WORD + r") = c\.args in\b", text)]
+        for h in heads:
+            text = re.sub(r"(?<![\w'.\-])" + re.escape(h) + r"\.(t\d+)(?![\w])", lambda m: h + "." + to.get(m.group(1), m.group(1)), text)
+        return text
+
     def parts(self, text):
         """What was a tuple of arguments or of clauses goes by name, also behind a let of the step or of the requires."""
         steps = {}
@@ -193,15 +218,24 @@ class Turner:
         for m in re.finditer(r"let (" + WORD + r")(?: : [^=]*?)? = (c\." + WORD + r") in\b", text):
             if m.group(2) in heads:
                 heads[m.group(1)] = m.group(2)
+        said = {}
+        for m in re.finditer(r"let (" + WORD + r") = ((?:c\.)?" + WORD + r")\.ensures in\b", text):
+            if m.group(2) in heads and heads[m.group(2)] in steps:
+                i = steps[heads[m.group(2)]]
+                clause = self.e["clauses"][i] if i < len(self.e["clauses"]) else None
+                if clause:
+                    said[m.group(1)] = clause["fields"]
 
         def one(m):
             head = heads.get(m.group(1))
+            rest = m.group(2).split(".")[1:]
+            if m.group(1) in said and rest[0] in ("0", "1"):
+                return ".".join([m.group(1)] + clause_path(said[m.group(1)], rest))
             if head is None:
                 return m.group(0)
-            rest = m.group(2).split(".")[1:]
             if head == "c.requires":
                 if self.e.get("pre") and rest and rest[0].isdigit():
-                    rest = [self.e["pre"]["fields"][int(rest[0])]] + rest[1:]
+                    rest = clause_path(self.e["pre"]["fields"], rest)
             else:
                 i = steps[head]
                 names = self.e["params"].get(self.e["places"][i][3] or "", [])
@@ -215,7 +249,7 @@ class Turner:
                     else:
                         self.left.append(f"{self.where}: {m.group(0)}")
                 elif clause and len(rest) > 1 and rest[0] == "ensures" and rest[1].isdigit():
-                    rest = [rest[0], clause["fields"][int(rest[1])]] + rest[2:]
+                    rest = [rest[0]] + clause_path(clause["fields"], rest[1:])
             return ".".join([m.group(1)] + rest)
 
         return re.sub(r"(?<![\w'.\-₀-₉])((?:c\.)?" + WORD + r")((?:\." + WORD + r")+)", one, text)

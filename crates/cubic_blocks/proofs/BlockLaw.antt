@@ -1,13 +1,13 @@
 -- A block of 27 places of the cubic walk, in the code's terms.
-use mathlib.Core.Path.{◌≡◌, refl, sym, ap, ◌∙◌}
-use mathlib.Core.List.{List, [], ◌∷◌}
-use Prim.Native.Nat.{ℕ, zero, suc, ◌+◌, ◌-◌, ◌*◌, ◌/◌, ◌≤◌, ◌<◌}
+use mathlib.Core.Path.{◌≡◌, refl, ap}
+use mathlib.Core.List.{List, ◌∷◌}
+use Prim.Native.Nat.{ℕ, suc, ◌+◌, ◌-◌, ◌*◌}
 use native.Mathlib.Omega.{arith}
 use Rattle.trits.specs.declared.Vector.{Vector}
 use Rattle.positions.specs.Positions.{reps}
 use Rattle.tables.specs.Words.{entry}
 use Rattle.walks.specs.Walk.{Walk, turns, block}
-use Rattle.cubic_tables.specs.Order.{pair_of, seat_of}
+use Rattle.cubic_tables.specs.Order.{pair_of}
 use Rattle.cubic_moves.specs.Step.{State, bump, move_of, walk_by}
 use Rattle.cubic_tables.specs.Order.{key_of}
 use Rattle.cubic_tables.specs.Words.{triple_at}

@@ -1,11 +1,10 @@
 -- A whole block of 27 places, its first move included: three slots move inside, and one from 3 on at its first place.
 use mathlib.Core.Path.{◌≡◌, refl, sym, ap, ◌∙◌}
-use mathlib.Core.List.{List, [], ◌∷◌}
-use Prim.Native.Nat.{ℕ, ◌+◌, ◌-◌, ◌*◌, ◌/◌, ◌%◌, ◌^◌, ◌≤◌, ◌<◌}
+use mathlib.Core.List.{List, ◌∷◌}
+use Prim.Native.Nat.{ℕ, ◌+◌, ◌-◌, ◌*◌, ◌/◌, ◌%◌, ◌≤◌, ◌<◌}
 use native.Mathlib.Omega.{arith}
-use lib.ListN.{length, get_or, set, drop}
+use lib.ListN.{length, set}
 use Rattle.trits.specs.declared.Vector.{Vector}
-use Rattle.trits.specs.Trit.{none}
 use Rattle.gray.specs.Numbers.{point_of}
 use Rattle.positions.specs.Positions.{positions}
 use Rattle.tables.specs.Words.{entry}
@@ -16,7 +15,7 @@ use Rattle.moves.proofs.MoveLaw.{two}
 use Rattle.blocks.proofs.PartLaw.{set3, with3}
 use Rattle.cubic_tables.specs.Order.{pair_of}
 use Rattle.cubic_moves.specs.Step.{State, move_of, walk_by, walk_of}
-use Rattle.cubic_tables.specs.Order.{key_of, cubic_count}
+use Rattle.cubic_tables.specs.Order.{cubic_count}
 use Rattle.cubic_tables.specs.Order.{pairs_of}
 use Rattle.cubic_tables.specs.Words.{triple_at}
 use Rattle.cubic_moves.specs.Moves.{headed}
@@ -27,7 +26,7 @@ use Rattle.cubic_blocks.specs.declared.parts.Keys.{Keys}
 use Rattle.cubic_moves.proofs.MoveLaw.{lawful}
 use Rattle.cubic_moves.proofs.EntryLaw.{converted, entries_turned}
 use Rattle.cubic_blocks.proofs.BlockLaw.{pair_one, pair_two, big_is}
-use Rattle.cubic_tables.proofs.PairLaw.{Within, within, pair_lt}
+use Rattle.cubic_tables.proofs.PairLaw.{within, pair_lt}
 
 -- 27 places from one that 27 divides, with two positions at least
 pub big_step : (t : List ℕ) (n p b c : ℕ) (ps : List ℕ) (s : State) → s.place ≡ p → p % 27 ≡ 0 → positions 3 p ≡ b ∷ c ∷ ps

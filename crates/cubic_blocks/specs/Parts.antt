@@ -1,7 +1,6 @@
 -- The state from the parts that the code holds, and blocks of 27 places in the code's terms.
 use Rattle.std.specs.Prelude.{List, ◌∷◌, length, ℕ, zero, suc, ◌+◌, ◌-◌, ◌*◌, ◌≤◌, ◌<◌}
 use Rattle.trits.specs.declared.Vector.{Vector}
-use Rattle.tables.specs.Words.{entry}
 use Rattle.cubic_moves.specs.Step.{State, bump, jot_of}
 use Rattle.cubic_tables.specs.Order.{key_of}
 use Rattle.blocks.specs.declared.parts.Part.{Part}

@@ -2,7 +2,7 @@
 use mathlib.Core.Path.{◌≡◌, refl, ap, ◌∙◌}
 use mathlib.Core.Bool.{Bool, true, not, ◌&&◌}
 use mathlib.Core.List.{List, [], ◌∷◌}
-use Prim.Native.Nat.{ℕ, ◌+◌, ◌*◌, ◌^◌, ◌≤◌, ◌<◌}
+use Prim.Native.Nat.{ℕ, ◌+◌, ◌^◌, ◌≤◌, ◌<◌}
 use native.Mathlib.Omega.{arith}
 use lib.Dec.{eqb}
 use lib.ListN.{length}
@@ -11,13 +11,13 @@ use Rattle.trits.specs.Words.{is_zero}
 use Rattle.positions.specs.Positions.{lowest_of, positions}
 use Rattle.moves.proofs.MoveLaw.{end_small, first_lt}
 use Rattle.moves.proofs.NearLaw.{found_le, list_length}
-use Rattle.walks.specs.Walk.{Walk, step_of}
+use Rattle.walks.specs.Walk.{step_of}
 use Rattle.walks.proofs.FollowLaw.{Counts}
 use Rattle.cubic_moves.specs.Step.{State, push, lift, bump, move_of, note_by, walk_by, walk_of}
 use Rattle.cubic_tables.specs.Words.{triple_at}
 use Rattle.cubic_moves.specs.Moves.{Sized}
 use Rattle.walks.proofs.SearchLaw.{Near}
-use Rattle.walks.proofs.WalkedLaw.{Walked, Sound, Goes, goes_on}
+use Rattle.walks.proofs.WalkedLaw.{Walked, Goes, goes_on}
 
 abbrev pub counts : Counts State
 counts = record { additions = λ s. s.additions; found = λ s. s.found; list = λ s. s.list }

@@ -1,9 +1,9 @@
 -- What the loop over blocks keeps: the walk so far, at a place above 0 that 27 divides.
-use mathlib.Core.Path.{◌≡◌, refl, sym, ap, ◌∙◌}
+use mathlib.Core.Path.{◌≡◌, sym, ap, ◌∙◌}
 use mathlib.Core.List.{List}
 use Prim.Native.Nat.{ℕ, ◌+◌, ◌-◌, ◌*◌, ◌/◌, ◌%◌, ◌^◌, ◌≤◌, ◌<◌}
 use native.Mathlib.Omega.{arith}
-use lib.ListN.{length, get_or, set, drop, length-drop, length-set}
+use lib.ListN.{length, get_or, set, drop, length-set}
 use lib.Seq.{get_or-drop, drop-set-add}
 use Rattle.trits.specs.declared.Vector.{Vector}
 use Rattle.trits.specs.Trit.{none}
@@ -12,7 +12,7 @@ use Rattle.positions.specs.Positions.{lowest_of}
 use Rattle.positions.proofs.LowestLaw.{of_lt}
 use Rattle.moves.proofs.MoveLaw.{two, end_small}
 use Rattle.blocks.proofs.PartLaw.{lift27, split3, join3}
-use Rattle.walks.specs.Walk.{Walk, iterate}
+use Rattle.walks.specs.Walk.{iterate}
 use Rattle.cubic_moves.specs.Step.{State, walk_of}
 use Rattle.cubic_tables.specs.Words.{triple_at}
 use Rattle.cubic_blocks.specs.Parts.{whole}
@@ -23,7 +23,7 @@ use Rattle.cubic_walk.specs.declared.Ran.{Ran}
 use Rattle.blocks.specs.declared.parts.Part.{Part}
 use Rattle.cubic_moves.proofs.MoveLaw.{Heads, heads}
 use Rattle.cubic_moves.proofs.NearLaw.{counts, step_near}
-use Rattle.walks.proofs.WalkedLaw.{Sound, Walked, walked_none, walked_more}
+use Rattle.walks.proofs.WalkedLaw.{Walked, walked_none, walked_more}
 
 -- a walker taken apart, and put together again
 pub apart : (r : Ran) (l : List ℕ) → 3 ≤ length r.walker.slots → state_of r l ≡ whole (part_of r) (drop 3 r.walker.slots) r.walker.seconds l

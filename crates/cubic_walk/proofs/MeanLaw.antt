@@ -6,7 +6,7 @@ use Prim.Native.Nat.{ℕ, zero, suc, ◌+◌, ◌-◌, ◌*◌, ◌%◌, ◌^◌
 use native.Mathlib.Nat.{mod-mod, mul-zero}
 use native.Mathlib.Decide.{ℕ_discrete, dec_lt}
 use native.Mathlib.Omega.{arith}
-use lib.ListN.{length, get_or, set, length-set}
+use lib.ListN.{length, get_or, length-set}
 use lib.Seq.{get_or-set_other, ext_get_or}
 use Rattle.residues.specs.Sums.{same}
 use Rattle.residues.proofs.SumLaw.{same_self, same_other}
@@ -18,7 +18,7 @@ use Rattle.positions.specs.Positions.{lowest_of, positions, latest}
 use Rattle.positions.proofs.LowestLaw.{of_zero}
 use Rattle.positions.proofs.PositionLaw.{positions_none, positions_next}
 use Rattle.gray.specs.Numbers.{point_digit}
-use Rattle.tables.specs.Words.{entry, put_at}
+use Rattle.tables.specs.Words.{entry}
 use Rattle.tables.proofs.WriteLaw.{length_put, entry_other, entries_ext}
 use Rattle.tables.proofs.VectorLaw.{of_self}
 use Rattle.held.specs.Held as held

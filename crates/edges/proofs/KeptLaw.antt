@@ -1,16 +1,15 @@
 -- What is kept between two lines, for each way that a line is taken.
-use mathlib.Core.Path.{◌≡◌, refl, sym, ap, ap₂, ◌∙◌}
-use mathlib.Core.Bool.{Bool, true, false, true≢false}
+use mathlib.Core.Path.{◌≡◌, sym, ap, ◌∙◌}
+use mathlib.Core.Bool.{true, false, true≢false}
 use mathlib.Core.List.{List, [], ◌∷◌, ◌++◌}
 use Prim.Native.Nat.{ℕ, ◌+◌, ◌≤◌, ◌<◌}
 use native.Mathlib.Omega.{arith}
-use lib.ListN.{length, set, replicate}
+use lib.ListN.{set, replicate}
 use Rattle.refusals.specs.declared.Refusal.TheVariants as why
 use Rattle.refusals.specs.declared.Verdict.{Verdict}
-use Rattle.refusals.specs.declared.Verdict.TheVariants.{Done, Refused}
 use Rattle.graphs.specs.declared.Graph.{Graph}
-use Rattle.graphs.specs.Edges.{Ends, has_edge, take_once}
-use Rattle.graphs.specs.Reading.{vertices_most, lines_most, edges_most, State, on, stop, full_fault, carry}
+use Rattle.graphs.specs.Edges.{has_edge}
+use Rattle.graphs.specs.Reading.{vertices_most, lines_most, edges_most, on, stop, full_fault, carry}
 use Rattle.graphs.specs.Scans.{edges_of, state_of, cell_of, cells, Seen, Kept, Fits, pair_state}
 use Rattle.graphs.proofs.EdgeLaw.{once_again, once_new, full_again, full_room, full_refused, seen_none, seen_next}
 use Rattle.graphs.proofs.ReadLaw.{length_ends, ends_none, state_is}

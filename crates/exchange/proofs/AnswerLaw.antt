@@ -10,13 +10,12 @@ use borrow.Author.Tests.{ltb-true, lt-ltb, le-ltb, eq-eqb, ne_eqb}
 use Rattle.refusals.specs.Choice.{pick}
 use Rattle.refusals.specs.declared.Refusal.{Refusal}
 use Rattle.refusals.specs.declared.Refusal.TheVariants as why
-use Rattle.graphs.specs.Edges.{Ends, has_edge}
+use Rattle.graphs.specs.Edges.{Ends}
 use Rattle.graphs.specs.Reading.{text_most, words_least, Outcome, graph, refused, number_at, outcome_of}
-use Rattle.graphs.specs.Scans.{Seen}
 use Rattle.graphs.proofs.ReadLaw.{outcome_long}
 use Rattle.graphs.proofs.SoundLaw.{graph_refused, refuse_line, text_line}
 use Rattle.texts.specs.Text.{Put}
-use Rattle.tidying.specs.Tidy.{tidy_of, tidy_text, flags_text}
+use Rattle.tidying.specs.Tidy.{tidy_text, flags_text}
 use Rattle.tidying.proofs.TidyLaw.{whole_text}
 use Rattle.tidying.proofs.CountLaw.{tidy_length}
 use Rattle.tallies.specs.Tallies.{comments_in, repeats_in, turned_in, edges_in}

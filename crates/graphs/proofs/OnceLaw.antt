@@ -1,9 +1,7 @@
 -- What is read are the e lines of a text, each edge taken once; so its edges are those of its e lines.
 use mathlib.Core.Path.{◌≡◌, refl, sym, ap, ◌∙◌}
-use mathlib.Core.Bool.{Bool, true, false}
 use mathlib.Core.List.{List, [], ◌∷◌}
 use Prim.Native.Nat.{ℕ, ◌+◌}
-use native.Mathlib.Omega.{arith}
 use lib.Dec.{ltb}
 use lib.ListN.{length}
 use Rattle.refusals.specs.declared.Refusal.TheVariants as why
@@ -12,8 +10,8 @@ use Rattle.shapes.specs.declared.Shape.{Shape}
 use Rattle.shapes.specs.declared.Shape.TheVariants.{Comment, Problem, Edge, Unknown}
 use Rattle.shapes.specs.Shapes.{shape_of}
 use Rattle.graphs.specs.Edges.{Ends, has_edge, take_once, once_from}
-use Rattle.graphs.specs.Reading.{text_most, words_least, State, start, declared, Turn, on, stop, problem_fault, edge_fault, full_fault, or_else, take_line, graph, refused, end_of, read_lines, outcome_of, with_edge, edge_lines}
-use Rattle.graphs.proofs.EdgeLaw.{once_has, has_none}
+use Rattle.graphs.specs.Reading.{text_most, words_least, State, start, declared, Turn, on, stop, problem_fault, edge_fault, full_fault, or_else, take_line, graph, end_of, read_lines, outcome_of, with_edge, edge_lines}
+use Rattle.graphs.proofs.EdgeLaw.{once_has}
 use Rattle.graphs.proofs.ReadLaw.{read_none, read_go, read_stop}
 use Rattle.graphs.proofs.SoundLaw.{stop_on, on_is, carry_on, refused_graph, refuse_graph}
 

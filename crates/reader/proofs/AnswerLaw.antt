@@ -1,7 +1,7 @@
 -- The answer and the words after it, for each way that a reading ends.
 use mathlib.Core.Path.{◌≡◌, refl, sym, ap, ap₂, ◌∙◌}
 use mathlib.Core.List.{List, [], ◌∷◌, ◌++◌}
-use Prim.Native.Nat.{ℕ, ◌+◌, ◌-◌, ◌*◌, ◌≤◌, ◌<◌, min, max}
+use Prim.Native.Nat.{ℕ, ◌+◌, ◌*◌, ◌≤◌, ◌<◌}
 use native.Mathlib.Omega.{arith}
 use lib.ListN.{length, drop, set}
 use borrow.Author.Tests.{lt-ltb, le-ltb, eq-eqb, ne_eqb}
@@ -10,10 +10,8 @@ use Rattle.tables.specs.Words.{words_of}
 use Rattle.refusals.specs.declared.Refusal.{Refusal}
 use Rattle.refusals.specs.declared.Refusal.TheVariants as why
 use Rattle.refusals.specs.Refusal.{number_of}
-use Rattle.lines.specs.Lines.{lines_of}
-use Rattle.graphs.specs.Reading.{text_most, vertices_most, words_least, start, Outcome, graph, refused, read_lines, outcome_of}
+use Rattle.graphs.specs.Reading.{text_most, vertices_most, Outcome, graph, refused, outcome_of}
 use Rattle.graphs.specs.Edges.{Ends}
-use Rattle.graphs.specs.Drawn.{Edged}
 use Rattle.graphs.proofs.SoundLaw.{text_drawn}
 use Rattle.reader.specs.declared.ReadAnswer.TheVariants as answer
 use Rattle.equations.specs.Equations.{system_of}

@@ -1,5 +1,5 @@
 -- What the reader answers, and what it leaves in the words that it was lent.
-use Rattle.std.specs.Prelude.{not, List, [], ◌∷◌, ◌++◌, ℕ, ◌+◌, ◌*◌, eqb, ltb, length, drop}
+use Rattle.std.specs.Prelude.{not, List, [], ◌∷◌, ◌++◌, ℕ, ◌*◌, eqb, ltb, length, drop}
 use Rattle.refusals.specs.declared.Refusal.TheVariants as why
 use Rattle.refusals.specs.Refusal.{number_of}
 use Rattle.tables.specs.Monomials.{count_of}

@@ -5,7 +5,7 @@ use mathlib.Core.List.{List, [], ◌∷◌, ◌++◌, append_assoc, append-nil}
 use mathlib.Core.Logic.{⊎_elim}
 use Prim.Native.Nat.{ℕ, zero, suc, ◌+◌, ◌*◌, ◌/◌, ◌%◌, ◌≤◌, ◌<◌}
 use native.Mathlib.Omega.{arith}
-use lib.Dec.{eqb, ltb, leb}
+use lib.Dec.{ltb}
 use lib.ListN.{length, length-append}
 use borrow.Author.Tests.{ltb-true, le-ltb, lt-leb, ne_eqb}
 use Rattle.refusals.specs.declared.Verdict.{Verdict}
@@ -14,10 +14,10 @@ use Rattle.lines.specs.Lines.{lines_of}
 use Rattle.lines.proofs.SplitLaw.{lines_none}
 use Rattle.lines.proofs.ReturnLaw.{other_true}
 use Rattle.shapes.specs.declared.Shape.{Shape}
-use Rattle.shapes.specs.declared.Shape.TheVariants.{Problem, Edge}
+use Rattle.shapes.specs.declared.Shape.TheVariants.{Edge}
 use Rattle.shapes.specs.Shapes.{edge_front, shape_of}
 use Rattle.graphs.specs.Edges.{Ends, meets, has_edge, take_once}
-use Rattle.graphs.specs.Reading.{vertices_most, edges_most, State, declared, on, edge_fault, full_fault, or_else, carry, take_line, Outcome, graph, read_lines}
+use Rattle.graphs.specs.Reading.{vertices_most, edges_most, declared, on, edge_fault, carry, take_line, graph, read_lines}
 use Rattle.graphs.specs.Scans.{cell_of, cells}
 use Rattle.graphs.specs.Drawn.{Edged}
 use Rattle.graphs.proofs.EdgeLaw.{meets_ends, has_add, once_new, full_room}

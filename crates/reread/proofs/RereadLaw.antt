@@ -6,11 +6,9 @@ use mathlib.Core.Logic.{by_cases}
 use Prim.Native.Nat.{ℕ, ◌+◌, ◌*◌, ◌≤◌, ◌<◌}
 use native.Mathlib.Decide.{dec_lt}
 use native.Mathlib.Omega.{arith}
-use lib.Dec.{ltb}
 use lib.ListN.{length, take, drop, length-append}
 use lib.Seq.{take-append_seam}
 use borrow.Author.Tests.{le-ltb}
-use Rattle.refusals.specs.declared.Verdict.{Verdict}
 use Rattle.refusals.specs.declared.Verdict.TheVariants.{Done}
 use Rattle.lines.specs.Lines.{lines_of}
 use Rattle.lines.proofs.ReturnLaw.{other_true}
@@ -18,7 +16,7 @@ use Rattle.shapes.specs.declared.Shape.{Shape}
 use Rattle.shapes.specs.declared.Shape.TheVariants.{Problem, Edge}
 use Rattle.shapes.specs.Shapes.{problem_front, shape_of}
 use Rattle.graphs.specs.Edges.{Ends, has_edge}
-use Rattle.graphs.specs.Reading.{vertices_most, lines_most, edges_most, words_least, start, declared, on, problem_fault, carry, take_line, graph, read_lines, outcome_of}
+use Rattle.graphs.specs.Reading.{vertices_most, lines_most, edges_most, words_least, start, declared, on, problem_fault, take_line, graph, read_lines, outcome_of}
 use Rattle.graphs.specs.Scans.{flag, cells}
 use Rattle.graphs.specs.Drawn.{Edged, Drawn}
 use Rattle.graphs.proofs.EdgeLaw.{has_none, has_turn}
@@ -29,9 +27,6 @@ use Rattle.tidying.proofs.SetLaw.{tidy_has, tidy_again}
 use Rattle.tidying.proofs.CountLaw.{has_edged, tidy_length}
 use Rattle.tallies.specs.Tallies.{as_comment, as_edge, as_turned, sum_lines, comments_in, repeats_in, turned_in, edges_in}
 use Rattle.tallies.proofs.TallyLaw.{sum_cons, edges_repeats}
-use Rattle.exchange.specs.Answers.{tidied, answer_of, out_after}
-use Rattle.exchange.specs.declared.TidyAnswer.{TidyAnswer}
-use Rattle.exchange.specs.declared.TidyAnswer.TheVariants as answer
 use Rattle.exchange.proofs.AnswerLaw.{tidied_fits, after_graph}
 use Rattle.reread.specs.Reread.{tidy_most, Reread}
 use Rattle.reread.proofs.ShapeLaw.{body_of, problem_cut, problem_shape, problem_short}

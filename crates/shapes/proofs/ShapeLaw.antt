@@ -1,6 +1,6 @@
 -- The shape of a line, test by test; and that a line with a carriage return that is no comment has none.
 use mathlib.Core.Path.{◌≡◌, refl, sym, ap, ◌∙◌}
-use mathlib.Core.Bool.{Bool, true, false, Bool-discrete}
+use mathlib.Core.Bool.{true, false, Bool-discrete}
 use mathlib.Core.List.{List}
 use mathlib.Core.Logic.{by_cases}
 use Prim.Native.Nat.{ℕ}

@@ -1,6 +1,6 @@
 -- `codec::decode` meets its contract: after i turns the first i words are read.
 use mathlib.Core.Path.{◌≡◌, refl, sym, ap, ◌∙◌}
-use Prim.Native.Nat.{ℕ, ◌-◌}
+use Prim.Native.Nat.{ℕ}
 use mathlib.Core.List.{List, ◌++◌, ◌∷◌, []}
 use native.Mathlib.Numerals.{add-one}
 use native.Mathlib.Omega.{arith}

@@ -1,9 +1,9 @@
 -- `codec::encode` meets its contract: after i turns the bytes of the first i words stand in their place.
 use mathlib.Core.Path.{refl, sym, ap, ◌∙◌}
-use Prim.Native.Nat.{ℕ, ◌-◌, ◌+◌, ◌*◌}
+use Prim.Native.Nat.{ℕ, ◌+◌, ◌*◌}
 use mathlib.Core.List.{List}
 use native.Mathlib.Omega.{arith}
-use lib.ListN.{length, take, get_or}
+use lib.ListN.{get_or}
 use lib.Seq.{take_all}
 use Rattle.codec.specs.Codec.{bytes_of, bytes_from, pasted}
 use Rattle.codec.proofs.CodecLaw.{paste_none, from_nil, pasted_length, encode_turn}
@@ -19,7 +19,7 @@ loop-i-preserved c =
     let l = c.loop-i in
     let a = c.args in
     let h = c.loop-i-test.true in
-    let n = pasted_length l.b c.put_word.new.0 (8 * (a.at + l.i)) 8 (get_or a.w.now l.i 0) c.put_word.ensures (omega arith) in (
+    let n = pasted_length l.b c.put_word.new.b (8 * (a.at + l.i)) 8 (get_or a.w.now l.i 0) c.put_word.ensures (omega arith) in (
       omega arith,
       n ∙ l.invariant.1,
       c.put_word.ensures

@@ -1,6 +1,5 @@
 -- `comparing::same_slots` meets its contract: what is left to compare decides.
 use mathlib.Core.Path.{refl, sym, ◌∙◌}
-use Prim.Native.Nat.{◌-◌}
 use native.Mathlib.Omega.{arith}
 use borrow.Author.Rules.{rules}
 use borrow.Author.Tests.{not-true, not-false}
@@ -16,16 +15,16 @@ pub returns-then-not-same_vector : goal.returns-then-not-same_vector
 returns-then-not-same_vector c =
     let a = c.args in
     let l = c.loop-i in
-    same_stop same_vector none a.t1 a.t2 l.i (omega (arith, l.invariant.1)) (omega (arith, l.invariant.2)) _ c.same_vector.ensures _ l.invariant.3 (not-true _ c.if-not-same_vector.true-raw)
+    same_stop same_vector none a.a a.b l.i (omega (arith, l.invariant.1)) (omega (arith, l.invariant.2)) _ c.same_vector.ensures _ l.invariant.3 (not-true _ c.if-not-same_vector.true-raw)
 
 pub loop-i-preserved : goal.loop-i-preserved
 loop-i-preserved c =
     let a = c.args in
     let l = c.loop-i in
-    (omega (arith, c.loop-i-test.true), l.invariant.1, l.invariant.2, same_go same_vector none a.t1 a.t2 l.i (omega (arith, l.invariant.1)) (omega (arith, l.invariant.2)) _ c.same_vector.ensures _ l.invariant.3 (not-false _ c.if-not-same_vector.false-raw))
+    (omega (arith, c.loop-i-test.true), l.invariant.1, l.invariant.2, same_go same_vector none a.a a.b l.i (omega (arith, l.invariant.1)) (omega (arith, l.invariant.2)) _ c.same_vector.ensures _ l.invariant.3 (not-false _ c.if-not-same_vector.false-raw))
 
 pub returns : goal.returns
 returns c =
     let a = c.args in
     let l = c.loop-i in
-    sym (same_end same_vector none a.t1 a.t2 l.i (omega (arith, l.invariant.1, c.loop-i-test.false)) (omega (arith, l.invariant.2, c.loop-i-test.false))) ∙ l.invariant.3
+    sym (same_end same_vector none a.a a.b l.i (omega (arith, l.invariant.1, c.loop-i-test.false)) (omega (arith, l.invariant.2, c.loop-i-test.false))) ∙ l.invariant.3

@@ -1,10 +1,10 @@
 -- `cubic_blocks::all_keys` meets its contract: the keys of the unknowns before b stand.
 use mathlib.Core.Path.{refl, sym, ap, ◌∙◌}
 use mathlib.Core.Logic.{by_cases}
-use Prim.Native.Nat.{ℕ, ◌-◌}
+use Prim.Native.Nat.{ℕ}
 use native.Mathlib.Decide.{ℕ_discrete}
 use native.Mathlib.Omega.{arith}
-use lib.ListN.{length, get_or, set, length-set}
+use lib.ListN.{get_or, set, length-set}
 use lib.Seq.{get_or-set_same, get_or-set_other}
 use Rattle.cubic_tables.specs.Order.{key_of}
 use Rattle.cubic_blocks.proofs.all_keys.Goals as goal

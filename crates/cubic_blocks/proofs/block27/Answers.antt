@@ -14,29 +14,31 @@ pub big-part-requires : goal.big-part-requires
 big-part-requires c =
     let a = c.args in
     let z = c.requires.sized in
-    let k = c.requires.k_value.0 in
-    let m = c.requires.k_value.1.0 in
-    let q = c.requires.k_value.1.1.0 in
-    let f = c.requires.k_value.1.1.1 in
+    let k = c.requires.k_value in
+    let m = c.requires.place_nonzero in
+    let q = c.requires.le_b in
+    let f = c.requires.found_in_bounds in
     let e = end_small a.n z.small in
     record { fits = fits_head a.table.now a.n a.k a.b a.c c.pair-p.result (omega (arith, q)) z.small z.table k.0 q.1 q.2 c.pair-p.ensures.0; found_in_bounds = (f.0, omega (arith, m.2), omega (arith, c.head-h.ensures.count, f.1)) }
 
 pub points-requires : goal.points-requires
 points-requires c =
-    let q = c.requires.k_value.1.1.0 in
+    let q = c.requires.le_b in
     let r = c.big-part in
-    (omega (arith, q), c.requires.sized.small, omega (arith, r.ensures.went.found, r.auto, c.requires.k_value.1.1.1.0))
+    (omega (arith, q), c.requires.sized.small, omega (arith, r.ensures.went.found, r.auto, c.requires.found_in_bounds.0))
 
 pub returns : goal.returns
 returns c =
     let a = c.args in
-    let k = c.requires.k_value.0 in
-    let m = c.requires.k_value.1.0 in
-    let q = c.requires.k_value.1.1.0 in
+    let k = c.requires.k_value in
+    let m = c.requires.place_nonzero in
+    let q = c.requires.le_b in
     let g = c.head-h in
     let r = c.big-part in
-    λ others hs.
-    block27_is a.table.now a.n a.k a.x r.result others a.seconds.now _ _ a.list.now _ _ a.b a.c c.pair-p.result (positions 3 (3 ^ a.c * a.rest)) g.result k.0 c.pair-p.ensures.0 m.1 q.0 m.3 c.requires.k_value.1.1.1.0
-    (g.ensures.state (whole a.x others a.seconds.now a.list.now) refl refl refl (get3 a.x.s0 a.x.s1 a.x.s2 others a.b q.0 ∙ hs))
-    (r.ensures.state (set others (a.b - 3) g.result.slot))
-    c.points.ensures
+    record {
+      state = λ others hs.
+          block27_is a.table.now a.n a.k a.x r.result others a.seconds.now _ _ a.list.now _ _ a.b a.c c.pair-p.result (positions 3 (3 ^ a.c * a.rest)) g.result k.0 c.pair-p.ensures.0 m.1 q.0 m.3 c.requires.found_in_bounds.0
+          (g.ensures.state (whole a.x others a.seconds.now a.list.now) refl refl refl (get3 a.x.s0 a.x.s1 a.x.s2 others a.b q.0 ∙ hs))
+          (r.ensures.state (set others (a.b - 3) g.result.slot))
+          c.points.ensures;
+    }

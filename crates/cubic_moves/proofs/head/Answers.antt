@@ -31,7 +31,8 @@ returns c =
     let u = c.second-u in
     let p = c.raise.ensures in
     let z = c.requires.kb_value in
-    let T = triple_at a.table.now a.n in record { state = (λ st hv ha hw hs.
+    let T = triple_at a.table.now a.n in record {
+      state = (λ st hv ha hw hs.
           let ps = p.0 ∙ ap (λ (v : Vector). add_of v u.result.vector) (sym hs) in
           let qv = p.1 ∙ ap₂ add_of (sym hv) (sym p.0) in
           by_cases (ℕ_discrete a.rest 0)
@@ -42,10 +43,12 @@ returns c =
           ∙ ap (headed st a.b _) (hw ∙ sym o.0))
           (λ e.
           let h : 0 < a.rest = omega arith in
-          let o = u.ensures.three.0 h in
+          let o = u.ensures.three h in
           head_three T a.b a.c a.rest st _ u.result.vector _ h
           (o.0 ∙ ap (λ (w : List ℕ). put_at w c.pair-k.result u.result.vector) (sym hw) ∙ ap (λ (m : ℕ). put_at st.seconds m u.result.vector) k)
           (o.1 ∙ ap (λ (w : List ℕ). add_of (entry w c.pair-k.result) (entry a.table.now (a.kb + pair_of a.n a.c (a.c + lowest_of 3 a.rest)))) (sym hw)
           ∙ ap (λ (m : ℕ). add_of (entry st.seconds m) (entry a.table.now (a.kb + pair_of a.n a.c (a.c + lowest_of 3 a.rest)))) k
           ∙ ap (λ (m : ℕ). add_of (entry st.seconds (pair_of 20 a.b a.c)) (entry a.table.now (m + pair_of a.n a.c (a.c + lowest_of 3 a.rest)))) z.0)
-          ps qv (omega (arith, o.2, p.2, ha)))); count = omega (arith, u.ensures.three.1, p.2) }
+          ps qv (omega (arith, o.2, p.2, ha))));
+      count = omega (arith, u.ensures.count, p.2);
+    }

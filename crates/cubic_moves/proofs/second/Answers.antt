@@ -38,4 +38,4 @@ returns c =
     let a = c.args in
     let u = c.raised.ensures in
     let g = c.split-f.ensures.position in
-    let e : c.pair.result ≡ pair_of a.n a.c (a.c + lowest_of 3 a.rest) = c.pair.ensures.0 ∙ ap (λ (m : ℕ). pair_of a.n a.c (a.c + m)) g in record { two = (λ h. absurd (omega (arith, h, c.if-rest-eq0))); three = (λ h. (u.1, u.0.0 ∙ ap (add_of (entry a.seconds.now a.k)) (c.vector-t.ensures ∙ ap (λ (m : ℕ). entry a.table.now (a.kb + m)) e), u.0.1)); count = omega (arith, u.0.1) }
+    let e : c.pair.result ≡ pair_of a.n a.c (a.c + lowest_of 3 a.rest) = c.pair.ensures.0 ∙ ap (λ (m : ℕ). pair_of a.n a.c (a.c + m)) g in record { two = (λ h. absurd (omega (arith, h, c.if-rest-eq0))); three = (λ h. (u.seconds, u.sum.0 ∙ ap (add_of (entry a.seconds.now a.k)) (c.vector-t.ensures ∙ ap (λ (m : ℕ). entry a.table.now (a.kb + m)) e), u.sum.1)); count = omega (arith, u.sum.1) }

@@ -1,6 +1,6 @@
 -- `cubic_walk::run` meets its contract: single places and blocks in turn are one search.
-use mathlib.Core.Path.{refl, ap}
-use Prim.Native.Nat.{◌-◌, ◌<◌}
+use mathlib.Core.Path.{refl}
+use Prim.Native.Nat.{◌<◌}
 use native.Mathlib.Omega.{arith}
 use lib.ListN.{length}
 use Rattle.gray.specs.Numbers.{point_of}
@@ -30,7 +30,7 @@ steps-a-requires c =
     record { sized = c.requires.sized; sane_2 = record { place = o.place; found = o.found; additions = o.additions } }
 
 pub overflow_sub-more : goal.overflow_sub-more
-overflow_sub-more c = omega (arith, c.steps-a.ensures.sane.1)
+overflow_sub-more c = omega (arith, c.steps-a.ensures.less)
 
 pub overflow_sub-more-in-loop-start : goal.overflow_sub-more-in-loop-start
 overflow_sub-more-in-loop-start c =
@@ -41,16 +41,16 @@ overflow_sub-more-in-loop-start c =
     let f = c.lead-first in
     let h : 0 < f.result = f.ensures.1 g.left in
     let x = c.steps-a in
-    omega (arith, x.ensures.sane.1, f.ensures.0)
+    omega (arith, x.ensures.less, f.ensures.0)
 
 pub leaps-r-requires : goal.leaps-r-requires
-leaps-r-requires c = record { sized = c.requires.sized; sane_2 = c.steps-a.ensures.sane.0 }
+leaps-r-requires c = record { sized = c.requires.sized; sane_2 = c.steps-a.ensures.sane }
 
 pub overflow_sub-left : goal.overflow_sub-left
-overflow_sub-left c = omega (arith, c.leaps-r.ensures.sane.1)
+overflow_sub-left c = omega (arith, c.leaps-r.ensures.less)
 
 pub overflow_sub-left-in-loop-start : goal.overflow_sub-left-in-loop-start
-overflow_sub-left-in-loop-start c = omega (arith, c.leaps-r.ensures.sane.1)
+overflow_sub-left-in-loop-start c = omega (arith, c.leaps-r.ensures.less)
 
 pub loop-start-smaller : goal.loop-start-smaller
 loop-start-smaller c =
@@ -63,7 +63,7 @@ loop-start-smaller c =
     let x = c.steps-a in
     let y = c.leaps-r in
     let p : l.r.walker.place < x.result.walker.place = goes_some 3 (walk_of a.n T) counts 3 (step_near (point_of 3 a.n) T) a.end f.result l.left (state_of l.r l.list) (state_of x.result _) g h x.ensures.state in
-    omega (arith, p, g.left, x.ensures.sane.1, f.ensures.0)
+    omega (arith, p, g.left, x.ensures.less, f.ensures.0)
 
 pub loop-start-preserved : goal.loop-start-preserved
 loop-start-preserved c =
@@ -75,8 +75,8 @@ loop-start-preserved c =
     let h : 0 < f.result = f.ensures.1 g.left in
     let x = c.steps-a in
     let y = c.leaps-r in
-    let o = y.ensures.sane.0 in
-    (l.invariant.0, walked_on 3 (walk_of a.n T) counts 3 (step_near (point_of 3 a.n) T) a.end f.result a.budget l.left _ (state_of l.r l.list) (state_of x.result _) (state_of y.result _) l.invariant.1 f.ensures.0 x.ensures.state x.auto.list y.ensures.state record { place = o.place; found = o.found; additions = o.additions } y.auto.list y.ensures.sane.1.0 y.ensures.sane.1.1)
+    let o = y.ensures.sane in
+    (l.invariant.0, walked_on 3 (walk_of a.n T) counts 3 (step_near (point_of 3 a.n) T) a.end f.result a.budget l.left _ (state_of l.r l.list) (state_of x.result _) (state_of y.result _) l.invariant.1 f.ensures.0 x.ensures.state x.auto.list y.ensures.state record { place = o.place; found = o.found; additions = o.additions } y.auto.list y.ensures.less.0 y.ensures.less.1)
 
 pub shape_of-list : goal.shape_of-list
 shape_of-list c = c.loop-start.invariant.1.list

@@ -10,6 +10,6 @@ returns c =
     let a = c.args in
     let x = c.coefficients-restored.ensures in
     let z = c.degree_of-degree.ensures in (
-      c.code.ensures ∙ ap code_of (x.0 ∙ ap (λ (d : Degree). copying d a.n a.m a.table.now a.coefficients.now) z),
-      x.1.0 ∙ ap (λ (d : Degree). coefficients_into d a.n a.m a.table.now a.coefficients.now) z,
+      c.code.ensures ∙ ap code_of (x.answer ∙ ap (λ (d : Degree). copying d a.n a.m a.table.now a.coefficients.now) z),
+      x.left ∙ ap (λ (d : Degree). coefficients_into d a.n a.m a.table.now a.coefficients.now) z,
     )

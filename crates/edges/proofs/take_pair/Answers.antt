@@ -1,7 +1,7 @@
 -- `edges::take_pair` meets its contract: the flag says whether the edge is new.
 use mathlib.Core.Path.{◌≡◌, sym, ◌∙◌}
 use mathlib.Core.Bool.{true, false}
-use Prim.Native.Nat.{◌-◌, ◌<◌}
+use Prim.Native.Nat.{◌<◌}
 use native.Mathlib.Omega.{arith}
 use Rattle.graphs.specs.Edges.{has_edge}
 use Rattle.graphs.specs.Reading.{edges_most}

@@ -15,28 +15,28 @@ use Rattle.equations.proofs.write.Goals as goal
 
 pub loop-e-init : goal.loop-e-init
 loop-e-init c =
-    let g = c.args.t2 in
+    let g = c.args.g in
     let p = c.requires.0 in
     let t = c.clear.ensures ∙ ap (λ (k : ℕ). replicate k 0) p in
     (omega arith, refl, ap length t ∙ length-replicate (2 * count_of g.vertices) 0, t ∙ words_none g.vertices (system_of (edges_of g)))
 
 pub bounds-g-k : goal.bounds-g-k
 bounds-g-k c =
-    let g = c.args.t2 in
+    let g = c.args.g in
     let d = c.requires.1 in
     let l = c.loop-e in
     omega (arith, ends_few g.vertices g.count g.one g.other d)
 
 pub bounds-g-k-in-loop-e : goal.bounds-g-k-in-loop-e
 bounds-g-k-in-loop-e c =
-    let g = c.args.t2 in
+    let g = c.args.g in
     let d = c.requires.1 in
     let l = c.loop-e in
     omega (arith, ends_few g.vertices g.count g.one g.other d)
 
 pub overflow_sub-low : goal.overflow_sub-low
 overflow_sub-low c =
-    let g = c.args.t2 in
+    let g = c.args.g in
     let d = c.requires.1 in
     let l = c.loop-e in
     let o = in_order g.vertices (get_or g.one l.e 0) (get_or g.other l.e 0) (ends_edged g.vertices g.count g.one g.other d l.e (omega arith)) in
@@ -44,7 +44,7 @@ overflow_sub-low c =
 
 pub overflow_sub-high : goal.overflow_sub-high
 overflow_sub-high c =
-    let g = c.args.t2 in
+    let g = c.args.g in
     let d = c.requires.1 in
     let l = c.loop-e in
     let o = in_order g.vertices (get_or g.one l.e 0) (get_or g.other l.e 0) (ends_edged g.vertices g.count g.one g.other d l.e (omega arith)) in
@@ -52,7 +52,7 @@ overflow_sub-high c =
 
 pub put_edge-requires : goal.put_edge-requires
 put_edge-requires c =
-    let g = c.args.t2 in
+    let g = c.args.g in
     let d = c.requires.1 in
     let l = c.loop-e in
     let o = in_order g.vertices (get_or g.one l.e 0) (get_or g.other l.e 0) (ends_edged g.vertices g.count g.one g.other d l.e (omega arith)) in
@@ -60,7 +60,7 @@ put_edge-requires c =
 
 pub loop-e-preserved : goal.loop-e-preserved
 loop-e-preserved c =
-    let g = c.args.t2 in
+    let g = c.args.g in
     let d = c.requires.1 in
     let l = c.loop-e in
     let o = in_order g.vertices (get_or g.one l.e 0) (get_or g.other l.e 0) (ends_edged g.vertices g.count g.one g.other d l.e (omega arith)) in
@@ -75,7 +75,7 @@ shape_of-table c = c.loop-e.invariant.2 ∙ sym c.requires.0
 
 pub returns : goal.returns
 returns c =
-    let g = c.args.t2 in
+    let g = c.args.g in
     let l = c.loop-e in
     let k : l.e ≡ g.count = omega arith in
     l.invariant.3 ∙ ap (λ (j : ℕ). words_of g.vertices j (system_of (edges_of g))) k

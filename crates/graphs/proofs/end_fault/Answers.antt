@@ -1,5 +1,4 @@
 -- `graphs::end_fault` meets its contract.
-use Prim.Native.Nat.{◌-◌}
 use native.Mathlib.Omega.{arith}
 use borrow.Author.Tests.{not-true, not-false}
 use Rattle.graphs.specs.Scans.{edges_of}

@@ -1,8 +1,6 @@
 -- `lines::begins` meets its contract: what is left of both decides.
 use mathlib.Core.Path.{refl, sym, ◌∙◌}
-use Prim.Native.Nat.{◌-◌}
 use native.Mathlib.Omega.{arith}
-use Rattle.lines.specs.Lines.{starts}
 use Rattle.lines.proofs.LineLaw.{starts_short, starts_next, starts_stop, starts_end}
 use Rattle.lines.proofs.begins.Goals as goal
 

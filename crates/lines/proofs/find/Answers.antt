@@ -1,5 +1,4 @@
 -- `lines::find` meets its contract: the count so far and what the rest gives are the whole.
-use Prim.Native.Nat.{◌-◌}
 use native.Mathlib.Omega.{arith}
 use Rattle.lines.proofs.LineLaw.{find_here, find_next, find_end}
 use Rattle.lines.proofs.find.Goals as goal

@@ -1,6 +1,5 @@
 -- `lines::pair_in` meets its contract.
 use mathlib.Core.Path.{sym, ap₂, ◌∙◌}
-use Prim.Native.Nat.{◌-◌}
 use native.Mathlib.Omega.{arith}
 use lib.Seq.{length-take-le}
 use Rattle.lines.specs.Lines.{both}

@@ -4,7 +4,7 @@ use mathlib.Core.List.{◌++◌}
 use Prim.Native.Nat.{ℕ, ◌+◌, ◌-◌, ◌/◌, ◌≤◌}
 use native.Mathlib.Omega.{arith}
 use borrow.Author.Rules.{rules}
-use lib.ListN.{length, take, drop, set}
+use lib.ListN.{length, take, set}
 use Rattle.listing.specs.Listing.{digits_of}
 use Rattle.texts.proofs.TextLaw.{put_is, drop_turn, none_left}
 use Rattle.listing.proofs.ListingLaw.{digits_turn, digits_none}

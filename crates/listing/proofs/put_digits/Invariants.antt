@@ -1,6 +1,6 @@
 use mathlib.Core.Path.{◌≡◌}
 use mathlib.Core.List.{◌++◌}
-use Prim.Native.Nat.{◌+◌, ◌-◌, ◌≤◌}
+use Prim.Native.Nat.{◌-◌, ◌≤◌}
 use lib.ListN.{length, take, drop}
 use Rattle.listing.specs.Listing.{digits_of}
 use Rattle.listing.proofs.put_digits.Given as goal

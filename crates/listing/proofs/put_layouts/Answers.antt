@@ -1,6 +1,6 @@
 -- `listing::put_layouts` meets its contract: the lines that are left follow those that stand.
 use mathlib.Core.Path.{◌≡◌, refl, ◌∙◌}
-use Prim.Native.Nat.{◌-◌, ◌≤◌}
+use Prim.Native.Nat.{◌≤◌}
 use native.Mathlib.Omega.{arith}
 use lib.ListN.{length, take, drop}
 use Rattle.listing.specs.Listing.{layout_lines}
@@ -22,7 +22,7 @@ loop-i-preserved c =
       omega arith,
       omega (arith, r.ensures.1),
       p.size ∙ l.invariant.2,
-      lines_turn a.n l.text l.next r.new.0 r.result l.i a.points.now h p ∙ l.invariant.3,
+      lines_turn a.n l.text l.next r.new.text r.result l.i a.points.now h p ∙ l.invariant.3,
       p.rest ∙ drop_past l.next r.result l.text a.text.now (omega (arith, p.next)) l.invariant.4,
     )
 

@@ -10,13 +10,13 @@ returns-in-Two c =
     let a = c.args in
     let z = c.in-Two.is in
     let x = c.differences.ensures in
-    let e = x.0 ∙ sym (ap (λ (d : Degree). copying d a.n a.m a.coefficients.now a.table.now) z) in
-    record { answer = e; left = x.1.0 ∙ sym (ap (λ (d : Degree). differences_into d a.n a.m a.coefficients.now a.table.now) z); number = ap code_of e }
+    let e = x.answer ∙ sym (ap (λ (d : Degree). copying d a.n a.m a.coefficients.now a.table.now) z) in
+    record { answer = e; left = x.left ∙ sym (ap (λ (d : Degree). differences_into d a.n a.m a.coefficients.now a.table.now) z); number = ap code_of e }
 
 pub returns-in-Three : goal.returns-in-Three
 returns-in-Three c =
     let a = c.args in
     let z = c.in-Three.is in
     let x = c.differences-in-Three.ensures in
-    let e = x.0 ∙ sym (ap (λ (d : Degree). copying d a.n a.m a.coefficients.now a.table.now) z) in
-    record { answer = e; left = x.1.0 ∙ sym (ap (λ (d : Degree). differences_into d a.n a.m a.coefficients.now a.table.now) z); number = ap code_of e }
+    let e = x.answer ∙ sym (ap (λ (d : Degree). copying d a.n a.m a.coefficients.now a.table.now) z) in
+    record { answer = e; left = x.left ∙ sym (ap (λ (d : Degree). differences_into d a.n a.m a.coefficients.now a.table.now) z); number = ap code_of e }

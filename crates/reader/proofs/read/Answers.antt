@@ -56,4 +56,4 @@ returns-in-Done c =
     let w = a.words.now in
     let s = c.read_lines-s.result in
     let g = s.graph in
-    answer_graph (outcome_of t (length w)) g.vertices g.count c.words-used.result (edges_of g) c.write.new.0 w (outcome_lines t (length w) c.if-text-gt-TEXT_MOST.false c.if-words-lt-WORDS_LEAST.false ∙ sym c.read_lines-s.ensures.0 ∙ ap (λ (f : Verdict). found_of f s.line g.vertices (edges_of g)) c.in-Done.is) (length_ends g.count g.one g.other) c.write.ensures c.words-used.ensures.0
+    answer_graph (outcome_of t (length w)) g.vertices g.count c.words-used.result (edges_of g) c.write.new.table w (outcome_lines t (length w) c.if-text-gt-TEXT_MOST.false c.if-words-lt-WORDS_LEAST.false ∙ sym c.read_lines-s.ensures.0 ∙ ap (λ (f : Verdict). found_of f s.line g.vertices (edges_of g)) c.in-Done.is) (length_ends g.count g.one g.other) c.write.ensures c.words-used.ensures.0

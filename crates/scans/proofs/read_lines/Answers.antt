@@ -6,7 +6,7 @@ use lib.ListN.{length, take, drop, length-drop, drop_of_length-le}
 use lib.Seq.{length-take-le}
 use Rattle.lines.specs.Lines.{first_of, lines_of}
 use Rattle.graphs.specs.Scans.{state_of, edges_of}
-use Rattle.graphs.specs.Reading.{State, read_lines, start}
+use Rattle.graphs.specs.Reading.{State, read_lines}
 use Rattle.lines.proofs.LineLaw.{rest_is}
 use Rattle.lines.proofs.SplitLaw.{lines_at, lines_none}
 use Rattle.edges.proofs.KeptLaw.{kept_start}

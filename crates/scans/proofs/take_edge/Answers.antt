@@ -1,6 +1,5 @@
 -- `scans::take_edge` meets its contract.
 use mathlib.Core.Path.{sym, ◌∙◌}
-use Prim.Native.Nat.{◌-◌}
 use borrow.Author.Tests.{not-true, not-false}
 use Rattle.graphs.specs.Scans.{edges_of}
 use Rattle.graphs.proofs.ReadLaw.{early_edge, later_edge, edge_fine}

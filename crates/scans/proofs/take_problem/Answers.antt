@@ -1,6 +1,5 @@
 -- `scans::take_problem` meets its contract.
 use mathlib.Core.Path.{sym, ap, ◌∙◌}
-use Prim.Native.Nat.{◌-◌}
 use native.Mathlib.Omega.{arith}
 use Rattle.graphs.specs.Scans.{edges_of}
 use Rattle.graphs.specs.Reading.{on}

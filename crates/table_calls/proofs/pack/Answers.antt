@@ -10,6 +10,6 @@ returns c =
     let a = c.args in
     let x = c.pack-packed.ensures in
     let z = c.degree_of-degree.ensures in (
-      c.code.ensures ∙ ap code_of (x.0 ∙ ap (λ (d : Degree). packing d a.n a.m a.rows.now a.table.now) z),
-      x.1.0 ∙ ap (λ (d : Degree). packed_into d a.n a.m a.rows.now a.table.now) z,
+      c.code.ensures ∙ ap code_of (x.answer ∙ ap (λ (d : Degree). packing d a.n a.m a.rows.now a.table.now) z),
+      x.left ∙ ap (λ (d : Degree). packed_into d a.n a.m a.rows.now a.table.now) z,
     )

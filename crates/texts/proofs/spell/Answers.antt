@@ -1,9 +1,9 @@
 -- `texts::spell` meets its contract: the digits that are left come before those that stand.
 use mathlib.Core.Path.{◌≡◌, sym, ap, ◌∙◌}
 use mathlib.Core.List.{List, [], ◌++◌, append-nil}
-use Prim.Native.Nat.{ℕ, suc, ◌+◌, ◌-◌, ◌/◌, ◌≤◌, ◌<◌}
+use Prim.Native.Nat.{ℕ, suc, ◌-◌, ◌/◌, ◌≤◌, ◌<◌}
 use native.Mathlib.Omega.{arith}
-use lib.ListN.{length, drop, set, length-set}
+use lib.ListN.{drop, set, length-set}
 use Rattle.texts.specs.Text.{decimal_in}
 use Rattle.texts.proofs.TextLaw.{drop_all, spell_first, spell_fits, spell_turn, spell_last}
 use Rattle.texts.proofs.spell.Goals as goal

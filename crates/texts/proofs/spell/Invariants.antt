@@ -1,6 +1,6 @@
 use mathlib.Core.Path.{◌≡◌}
 use mathlib.Core.List.{◌++◌}
-use Prim.Native.Nat.{suc, ◌+◌, ◌-◌, ◌^◌, ◌<◌}
+use Prim.Native.Nat.{suc, ◌^◌, ◌<◌}
 use lib.ListN.{length, drop}
 use Rattle.texts.specs.Text.{decimal_in}
 use Rattle.texts.proofs.spell.Given as goal

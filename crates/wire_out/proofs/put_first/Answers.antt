@@ -1,9 +1,9 @@
 -- `wire_out::put_first` meets its contract: after i turns the first 5 + 2 i words are written.
 use mathlib.Core.Path.{sym, ap, ◌∙◌}
 use mathlib.Core.List.{List, ◌++◌}
-use Prim.Native.Nat.{ℕ, ◌-◌, ◌+◌, ◌*◌}
+use Prim.Native.Nat.{ℕ, ◌+◌, ◌*◌}
 use native.Mathlib.Omega.{arith}
-use lib.ListN.{length, take, get_or, set, length-set}
+use lib.ListN.{length, get_or, set, length-set}
 use lib.Seq.{take_all}
 use Rattle.trits.specs.declared.Vector.{Vector}
 use Rattle.opening.proofs.ShapeLaw.{slots_long}
@@ -13,7 +13,7 @@ use Rattle.wire_out.proofs.put_first.Goals as goal
 
 pub bounds-w-4 : goal.bounds-w-4
 bounds-w-4 c =
-    let r = c.args.t1 in
+    let r = c.args.r in
     let w = c.args.w.now in
     omega (
       arith,
@@ -26,7 +26,7 @@ bounds-w-4 c =
 
 pub loop-i-init : goal.loop-i-init
 loop-i-init c =
-    let r = c.args.t1 in
+    let r = c.args.r in
     let w = c.args.w.now in (
       omega arith,
       length_five w r.n r.m r.place.0 r.value.high r.value.low ∙ c.requires,
@@ -36,12 +36,12 @@ loop-i-init c =
 pub bounds-w-i-in-loop-i : goal.bounds-w-i-in-loop-i
 bounds-w-i-in-loop-i c =
     let l = c.loop-i in
-    omega (arith, l.invariant.1, length-set l.w (5 + 2 * l.i) (get_or c.args.t1.slots l.i (record { high = 0; low = 0 })).high)
+    omega (arith, l.invariant.1, length-set l.w (5 + 2 * l.i) (get_or c.args.r.slots l.i (record { high = 0; low = 0 })).high)
 
 pub loop-i-preserved : goal.loop-i-preserved
 loop-i-preserved c =
     let l = c.loop-i in
-    let r = c.args.t1 in
+    let r = c.args.r in
     let v = get_or r.slots l.i (record { high = 0; low = 0 }) in
     let g = slots_long r _ c.well_formed.0 in (
       omega arith,
@@ -52,6 +52,6 @@ loop-i-preserved c =
 pub returns : goal.returns
 returns c =
     let l = c.loop-i in
-    let r = c.args.t1 in
+    let r = c.args.r in
     let g = slots_long r _ c.well_formed.0 in
     sym (take_all (5 + 2 * l.i) l.w (omega arith)) ∙ l.invariant.2 ∙ ap (λ (m : List Vector). front r ++ words_from m) (take_all l.i r.slots (omega (arith, g)))

@@ -22,9 +22,12 @@ returns-then-left-eq0 c =
     let l = c.loop-left in
     let a = c.args in
     let w = l.invariant.2 in
-    let e = g.ensures.went in record { state = (λ rest.
+    let e = g.ensures.went in record {
+      state = (λ rest.
           g.ensures.state rest ∙ sym (legs_none l.a0 l.a1 l.a2 a.top (whole l.y rest l.list))
-          ∙ ap (λ (k : ℕ). legs_of k l.a0 l.a1 l.a2 a.top (whole l.y rest l.list)) (sym c.if-left-eq0.true) ∙ l.invariant.3 rest); went = record { place = omega (arith, c.if-left-eq0); found = omega (arith, c.if-left-eq0); additions = omega (arith, c.if-left-eq0) } }
+          ∙ ap (λ (k : ℕ). legs_of k l.a0 l.a1 l.a2 a.top (whole l.y rest l.list)) (sym c.if-left-eq0.true) ∙ l.invariant.3 rest);
+      went = record { place = omega (arith, c.if-left-eq0); found = omega (arith, c.if-left-eq0); additions = omega (arith, c.if-left-eq0) };
+    }
 
 pub raise_slot-y-requires : goal.raise_slot-y-requires
 raise_slot-y-requires c =
@@ -47,13 +50,13 @@ loop-left-preserved c =
     let m = c.raise_slot-y.ensures in
     let w = l.invariant.2 in
     let e = g.ensures.went in
-    let v = m.1 in
+    let v = m.went in
     let h : 0 < l.left = omega (arith, c.if-left-eq0) in
     let i = l.invariant.0 in (
       omega arith,
       omega (arith, g.auto, l.invariant.1),
       record { place = omega arith; found = omega arith; additions = omega arith },
       (λ rest.
-          ap (legs_of (l.left - 1) a.top.t02 a.top.t12 a.top.t22 a.top) (m.0 rest _ ∙ ap (bump 2 l.a2) (g.ensures.state rest))
+          ap (legs_of (l.left - 1) a.top.t02 a.top.t12 a.top.t22 a.top) (m.state rest _ ∙ ap (bump 2 l.a2) (g.ensures.state rest))
           ∙ sym (legs_more l.left l.a0 l.a1 l.a2 a.top (whole l.y rest l.list) h) ∙ l.invariant.3 rest),
     )

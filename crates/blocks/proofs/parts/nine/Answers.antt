@@ -24,9 +24,12 @@ returns-then-left-eq0 c =
     let a = c.args in
     let t = a.top in
     let w = l.invariant.2 in
-    let e = g.ensures.went in record { state = (λ rest.
+    let e = g.ensures.went in record {
+      state = (λ rest.
           g.ensures.state rest ∙ sym (rows_none t.t00 t.t01 t.t11 l.a0 l.a1 (whole l.y rest l.list))
-          ∙ ap (λ (k : ℕ). rows_of k l.a0 l.a1 t.t00 t.t01 t.t11 (whole l.y rest l.list)) (sym c.if-left-eq0.true) ∙ l.invariant.3 rest); went = record { place = omega (arith, c.if-left-eq0); found = omega (arith, c.if-left-eq0); additions = omega (arith, c.if-left-eq0) } }
+          ∙ ap (λ (k : ℕ). rows_of k l.a0 l.a1 t.t00 t.t01 t.t11 (whole l.y rest l.list)) (sym c.if-left-eq0.true) ∙ l.invariant.3 rest);
+      went = record { place = omega (arith, c.if-left-eq0); found = omega (arith, c.if-left-eq0); additions = omega (arith, c.if-left-eq0) };
+    }
 
 pub raise_slot-y-requires : goal.raise_slot-y-requires
 raise_slot-y-requires c =
@@ -49,13 +52,13 @@ loop-left-preserved c =
     let m = c.raise_slot-y.ensures in
     let w = l.invariant.2 in
     let e = g.ensures.went in
-    let v = m.1 in
+    let v = m.went in
     let h : 0 < l.left = omega (arith, c.if-left-eq0) in
     let i = l.invariant.0 in (
       omega arith,
       omega (arith, g.auto, l.invariant.1),
       record { place = omega arith; found = omega arith; additions = omega arith },
       (λ rest.
-          ap (rows_of (l.left - 1) t.t01 t.t11 t.t00 t.t01 t.t11) (m.0 rest _ ∙ ap (bump 1 l.a1) (g.ensures.state rest))
+          ap (rows_of (l.left - 1) t.t01 t.t11 t.t00 t.t01 t.t11) (m.state rest _ ∙ ap (bump 1 l.a1) (g.ensures.state rest))
           ∙ sym (rows_more t.t00 t.t01 t.t11 l.left l.a0 l.a1 (whole l.y rest l.list) h) ∙ l.invariant.3 rest),
     )

@@ -7,4 +7,4 @@ pub returns : goal.returns
 unfolding note_by
 returns c =
     let m = c.jot-found.ensures in
-    record { state = (λ rest. rw (m.0, m.1.0)); went = record { place = omega (arith, m.1.1); found = omega (arith, m.1.1); additions = omega (arith, m.1.1) } }
+    record { state = (λ rest. rw (m.count, m.list)); went = record { place = omega (arith, m.bound); found = omega (arith, m.bound); additions = omega (arith, m.bound) } }

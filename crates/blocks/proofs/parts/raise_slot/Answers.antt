@@ -12,6 +12,9 @@ returns c =
     let a = c.args in
     let g = c.slot-s.ensures in
     let m = c.raise-m.ensures in
-    let r = c.after.ensures in record { state = (λ rest l.
+    let r = c.after.ensures in record {
+      state = (λ rest l.
           let long : a.b < length (whole a.x rest l).slots = omega (arith, c.requires) in
-          r.0 rest l ∙ headed_bump a.b a.t _ (whole a.x rest l) _ long (g rest l) m.0 m.1 m.2); went = record { place = omega (arith, r.1); found = omega (arith, r.1); additions = omega (arith, r.1, m.2) } }
+          r.state rest l ∙ headed_bump a.b a.t _ (whole a.x rest l) _ long (g rest l) m.0 m.1 m.2);
+      went = record { place = omega (arith, r.counts); found = omega (arith, r.counts); additions = omega (arith, r.counts, m.2) };
+    }

@@ -8,4 +8,4 @@ pub returns : goal.returns
 returns c =
     let n = c.note.ensures in
     let m = c.raise_slot-m.ensures in
-    let a = c.args in record { state = (λ rest. n.0 rest ∙ ap jot_of (m.0 rest a.list.now)); went = record { place = omega (arith, n.1, m.1); found = omega (arith, n.1, m.1); additions = omega (arith, n.1, m.1) } }
+    let a = c.args in record { state = (λ rest. n.state rest ∙ ap jot_of (m.state rest a.list.now)); went = record { place = omega (arith, n.went, m.went); found = omega (arith, n.went, m.went); additions = omega (arith, n.went, m.went) } }

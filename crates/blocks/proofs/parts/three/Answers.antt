@@ -11,6 +11,9 @@ returns c =
     let p = c.step0.ensures in
     let q = c.step0-b.ensures in
     let n = c.note-a.ensures in
-    let a = c.args in record { state = (λ rest.
-          p.0 rest ∙ ap (λ (s : State). jot_of (bump 0 a.t00 s))
-          (q.0 rest ∙ ap (λ (s : State). jot_of (bump 0 a.th s)) (n.0 rest))); went = record { place = omega (arith, p.1, q.1, n.1); found = omega (arith, p.1, q.1, n.1); additions = omega (arith, p.1, q.1, n.1) } }
+    let a = c.args in record {
+      state = (λ rest.
+          p.state rest ∙ ap (λ (s : State). jot_of (bump 0 a.t00 s))
+          (q.state rest ∙ ap (λ (s : State). jot_of (bump 0 a.th s)) (n.state rest)));
+      went = record { place = omega (arith, p.went, q.went, n.went); found = omega (arith, p.went, q.went, n.went); additions = omega (arith, p.went, q.went, n.went) };
+    }

@@ -29,9 +29,12 @@ returns-then-left-eq0 c =
     let a = c.args in
     let E = entry a.table.now in
     let w = l.invariant.2 in
-    let e = g.ensures.went in record { state = (λ rest.
+    let e = g.ensures.went in record {
+      state = (λ rest.
           g.ensures.state rest ∙ sym (legs_none E a.k l.at l.q (whole l.y rest l.seconds l.list))
-          ∙ ap (λ (j : ℕ). legs_of E a.k j l.at l.q (whole l.y rest l.seconds l.list)) (sym c.if-left-eq0.true) ∙ l.invariant.4 rest); went = record { place = omega (arith, c.if-left-eq0); found = omega (arith, c.if-left-eq0); additions = omega (arith, c.if-left-eq0) } }
+          ∙ ap (λ (j : ℕ). legs_of E a.k j l.at l.q (whole l.y rest l.seconds l.list)) (sym c.if-left-eq0.true) ∙ l.invariant.4 rest);
+      went = record { place = omega (arith, c.if-left-eq0); found = omega (arith, c.if-left-eq0); additions = omega (arith, c.if-left-eq0) };
+    }
 
 pub overflow_add-e : goal.overflow_add-e
 overflow_add-e c = let f = c.loop-left.invariant.3 in omega (arith, f.room2, f.pair, c.well_formed.1.0)
@@ -67,7 +70,7 @@ loop-left-preserved c =
     let t = c.vector.ensures in
     let w = l.invariant.2 in
     let e = g.ensures.went in
-    let v = m.1 in
+    let v = m.went in
     let h : 0 < l.left = omega (arith, c.if-left-eq0) in
     let i = l.invariant.0 in (
       omega arith,
@@ -76,7 +79,7 @@ loop-left-preserved c =
       fits_two l.invariant.3,
       (λ rest.
           ap (legs_of E a.k (l.left - 1) 2 (a.k.p2 + l.at))
-          (m.0 rest _ ∙ ap (bump 2 (37 + l.at) c.vector.result) (g.ensures.state rest)
+          (m.state rest _ ∙ ap (bump 2 (37 + l.at) c.vector.result) (g.ensures.state rest)
           ∙ ap (λ (x : Vector). bump 2 (37 + l.at) x (nine_of E a.k l.at l.q (whole l.y rest l.seconds l.list))) t)
           ∙ sym (legs_more E a.k l.left l.at l.q (whole l.y rest l.seconds l.list) h) ∙ l.invariant.4 rest),
     )

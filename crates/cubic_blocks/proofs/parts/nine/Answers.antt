@@ -30,9 +30,12 @@ returns-then-left-eq0 c =
     let a = c.args in
     let E = entry a.table.now in
     let w = l.invariant.2 in
-    let e = g.ensures.went in record { state = (λ rest.
+    let e = g.ensures.went in record {
+      state = (λ rest.
           g.ensures.state rest ∙ sym (rows_none E a.k l.at l.q (whole l.y rest l.seconds l.list))
-          ∙ ap (λ (j : ℕ). rows_of E a.k j l.at l.q (whole l.y rest l.seconds l.list)) (sym c.if-left-eq0.true) ∙ l.invariant.4 rest); went = record { place = omega (arith, c.if-left-eq0); found = omega (arith, c.if-left-eq0); additions = omega (arith, c.if-left-eq0) } }
+          ∙ ap (λ (j : ℕ). rows_of E a.k j l.at l.q (whole l.y rest l.seconds l.list)) (sym c.if-left-eq0.true) ∙ l.invariant.4 rest);
+      went = record { place = omega (arith, c.if-left-eq0); found = omega (arith, c.if-left-eq0); additions = omega (arith, c.if-left-eq0) };
+    }
 
 pub overflow_add-e : goal.overflow_add-e
 overflow_add-e c = let f = c.loop-left.invariant.3 in omega (arith, f.room1, f.pair, c.well_formed.1.0)
@@ -68,7 +71,7 @@ loop-left-preserved c =
     let t = c.vector.ensures in
     let w = l.invariant.2 in
     let e = g.ensures.went in
-    let v = m.1 in
+    let v = m.went in
     let h : 0 < l.left = omega (arith, c.if-left-eq0) in
     let i = l.invariant.0 in (
       omega arith,
@@ -77,7 +80,7 @@ loop-left-preserved c =
       fits_one l.invariant.3,
       (λ rest.
           ap (rows_of E a.k (l.left - 1) 1 (a.k.p1 + l.at))
-          (m.0 rest _ ∙ ap (bump 1 (19 + l.at) c.vector.result) (g.ensures.state rest)
+          (m.state rest _ ∙ ap (bump 1 (19 + l.at) c.vector.result) (g.ensures.state rest)
           ∙ ap (λ (x : Vector). bump 1 (19 + l.at) x (three_of E a.k.k0 l.at l.q (whole l.y rest l.seconds l.list))) t)
           ∙ sym (rows_more E a.k l.left l.at l.q (whole l.y rest l.seconds l.list) h) ∙ l.invariant.4 rest),
     )

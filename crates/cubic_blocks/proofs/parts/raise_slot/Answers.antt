@@ -13,9 +13,12 @@ returns c =
     let g = c.slot-s.ensures in
     let u = c.raised-u in
     let m = c.raise-m.ensures in
-    let r = c.after.ensures in record { state = (λ rest l.
-          ap (beside _) (r.0 rest l)
+    let r = c.after.ensures in record {
+      state = (λ rest l.
+          ap (beside _) (r.state rest l)
           ∙ headed_bump a.b a.k a.t u.result.vector u.result.additions (whole a.x rest a.seconds.now l) _ c.raise-m.result u.ensures.sum.0 u.ensures.sum.1 u.ensures.seconds
           (m.0 ∙ ap (λ (v : Vector). add_of v u.result.vector) (g rest l))
           (m.1 ∙ ap (λ (v : Vector). add_of a.x.value (add_of v u.result.vector)) (g rest l))
-          m.2); went = record { place = omega (arith, r.1); found = omega (arith, r.1); additions = omega (arith, r.1, m.2, u.ensures.sum.1) } }
+          m.2);
+      went = record { place = omega (arith, r.counts); found = omega (arith, r.counts); additions = omega (arith, r.counts, m.2, u.ensures.sum.1) };
+    }

@@ -12,6 +12,9 @@ pub returns : goal.returns
 returns c =
     let n = c.note.ensures in
     let m = c.raise_slot-m.ensures in
-    let a = c.args in record { state = (λ rest.
-          ap (beside _) (n.0 rest) ∙ beside_note (λ p. p) _ (flat.whole c.raise_slot-m.result rest a.list.now) ∙ ap jot_of (m.0 rest a.list.now)
-          ∙ ap (λ (t : Vector). jot_of (bump 0 a.k t (whole a.x rest a.seconds.now a.list.now))) c.vector-t.ensures); went = record { place = omega (arith, n.1, m.1); found = omega (arith, n.1, m.1); additions = omega (arith, n.1, m.1) } }
+    let a = c.args in record {
+      state = (λ rest.
+          ap (beside _) (n.state rest) ∙ beside_note (λ p. p) _ (flat.whole c.raise_slot-m.result rest a.list.now) ∙ ap jot_of (m.state rest a.list.now)
+          ∙ ap (λ (t : Vector). jot_of (bump 0 a.k t (whole a.x rest a.seconds.now a.list.now))) c.vector-t.ensures);
+      went = record { place = omega (arith, n.went, m.went); found = omega (arith, n.went, m.went); additions = omega (arith, n.went, m.went) };
+    }

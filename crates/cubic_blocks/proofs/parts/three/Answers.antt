@@ -23,6 +23,9 @@ returns c =
     let q = c.step0-b.ensures in
     let n = c.note-a.ensures in
     let a = c.args in
-    let E = entry a.table.now in record { state = (λ rest.
-          p.0 rest ∙ ap (λ (s : State). jot_of (bump 0 0 (E (a.k0 + a.c)) s))
-          (q.0 rest ∙ ap (λ (s : State). jot_of (bump 0 a.c (E (a.k0 + a.p)) s)) (ap (beside a.seconds.now) (n.0 rest) ∙ beside_note (λ p. p) a.seconds.now (flat.whole a.x rest a.list.now)))); went = record { place = omega (arith, p.1, q.1, n.1); found = omega (arith, p.1, q.1, n.1); additions = omega (arith, p.1, q.1, n.1) } }
+    let E = entry a.table.now in record {
+      state = (λ rest.
+          p.state rest ∙ ap (λ (s : State). jot_of (bump 0 0 (E (a.k0 + a.c)) s))
+          (q.state rest ∙ ap (λ (s : State). jot_of (bump 0 a.c (E (a.k0 + a.p)) s)) (ap (beside a.seconds.now) (n.state rest) ∙ beside_note (λ p. p) a.seconds.now (flat.whole a.x rest a.list.now))));
+      went = record { place = omega (arith, p.went, q.went, n.went); found = omega (arith, p.went, q.went, n.went); additions = omega (arith, p.went, q.went, n.went) };
+    }

@@ -1,8 +1,8 @@
 -- `cubic_walk::leaps::leaps` meets its contract: each turn is 27 places of the search.
 use mathlib.Core.Path.{◌≡◌, refl, ap}
-use Prim.Native.Nat.{ℕ, ◌-◌}
+use Prim.Native.Nat.{ℕ}
 use native.Mathlib.Omega.{arith}
-use lib.ListN.{length, length-map}
+use lib.ListN.{length}
 use borrow.Author.Tests.{not-false}
 use Rattle.cubic_walk.specs.Run.{state_of, search_of}
 use Rattle.cubic_walk.proofs.LeapsLaw.{kept_none, first, seconds, kept_more, kept_done}
@@ -25,7 +25,7 @@ pub loop-k-init : goal.loop-k-init
 loop-k-init c =
     let a = c.args in
     let y = c.ready.ensures (not-false _ c.if-not-ready.false-raw) in
-    let k : length a.r.walker.slots ≡ 20 = simp length-map at c.well_formed.1.1.1.0.1.1.0.1.1.1.1.0.1.0.1 in
+    let k : length a.r.walker.slots ≡ 20 = c.well_formed.1.1.1.0.1.1.0.1.1.1.1.0.1.0.1 in
     (refl, c.keys-k.ensures, c.all_keys-all.ensures, rw c.opened-x.ensures (kept_none a.table.now a.n a.end c.requires.sized a.budget a.r a.list.now k c.requires.sane_2 y.1 y.2))
 
 pub room-requires : goal.room-requires
@@ -65,7 +65,7 @@ overflow_add-c c =
     let v = c.split-f in
     let f = first a.table.now a.n a.end c.requires.sized k o.1 v.result.position v.result.rest v.ensures.position v.ensures.whole v.ensures.above in
     let g = c.split-g in
-    let h = seconds a.n l.x _ v.result.rest g.result.position g.result.rest f c.if-f-eq1.false g.ensures.position g.ensures.whole g.ensures.above in
+    let h = seconds a.n l.x _ v.result.rest g.result.position g.result.rest f (omega arith) g.ensures.position g.ensures.whole g.ensures.above in
     omega (arith, h.low, c.requires.sized.small)
 
 pub offset_bounds-slots-b : goal.offset_bounds-slots-b
@@ -122,7 +122,7 @@ overflow_sub-rest c =
     let v = c.split-f in
     let f = first a.table.now a.n a.end c.requires.sized k o.1 v.result.position v.result.rest v.ensures.position v.ensures.whole v.ensures.above in
     let g = c.split-g in
-    let h = seconds a.n l.x _ v.result.rest g.result.position g.result.rest f c.if-f-eq1.false g.ensures.position g.ensures.whole g.ensures.above in
+    let h = seconds a.n l.x _ v.result.rest g.result.position g.result.rest f (omega arith) g.ensures.position g.ensures.whole g.ensures.above in
     omega (arith, h.some)
 
 pub block27-t-requires : goal.block27-t-requires
@@ -135,7 +135,7 @@ block27-t-requires c =
     let v = c.split-f in
     let f = first a.table.now a.n a.end c.requires.sized k o.1 v.result.position v.result.rest v.ensures.position v.ensures.whole v.ensures.above in
     let g = c.split-g in
-    let h = seconds a.n l.x _ v.result.rest g.result.position g.result.rest f c.if-f-eq1.false g.ensures.position g.ensures.whole g.ensures.above in
+    let h = seconds a.n l.x _ v.result.rest g.result.position g.result.rest f (omega arith) g.ensures.position g.ensures.whole g.ensures.above in
     let z = c.requires.sized in record { sized = record { some = z.some; small = z.small; table = z.table; end = omega arith }; k_value = (l.invariant.1, l.invariant.2 _ f.low); place_nonzero = (k.above, k.aligned, f.end, h.positions); le_b = (f.three, omega arith, h.low, h.rest); found_in_bounds = (omega (arith, o, l.invariant.0, m), f.count) }
 
 pub offset_bounds-slots-b-in-loop-k : goal.offset_bounds-slots-b-in-loop-k
@@ -191,12 +191,12 @@ loop-k-preserved c =
     let o = c.room.ensures c.loop-k-test.true in
     let v = c.split-f in
     let f = first a.table.now a.n a.end c.requires.sized k o.1 v.result.position v.result.rest v.ensures.position v.ensures.whole v.ensures.above in
-    (l.invariant.0, l.invariant.1, l.invariant.2, kept_more a.table.now a.n a.end c.requires.sized k o.1 o.0 (omega (arith, o, l.invariant.0, m)) _ f.three _ _ _ _ c.block27-t.ensures)
+    (l.invariant.0, l.invariant.1, l.invariant.2, kept_more a.table.now a.n a.end c.requires.sized k o.1 o.0 (omega (arith, o, l.invariant.0, m)) _ f.three _ _ _ _ c.block27-t.ensures.state)
 
 pub returns : goal.returns
 returns c =
     let l = c.loop-k in
     let a = c.args in
-    let k : length a.r.walker.slots ≡ 20 = simp length-map at c.well_formed.1.1.1.0.1.1.0.1.1.1.1.0.1.0.1 in
+    let k : length a.r.walker.slots ≡ 20 = c.well_formed.1.1.1.0.1.1.0.1.1.1.1.0.1.0.1 in
     let d = kept_done a.table.now a.n a.end c.requires.sized a.r c.closed.result k c.opened-x.ensures l.invariant.3 (c.closed.ensures l.list) in
     record { state = d.state; sane = d.sane; less = (d.from, d.most) }

@@ -1,9 +1,9 @@
 use mathlib.Core.Path.{◌≡◌}
-use Prim.Native.Nat.{ℕ, ◌-◌, ◌<◌}
+use Prim.Native.Nat.{ℕ, ◌<◌}
 use lib.ListN.{length, get_or}
 use Rattle.cubic_tables.specs.Order.{key_of}
 use Rattle.cubic_blocks.specs.Parts.{keys_of}
-use Rattle.cubic_walk.proofs.LeapsLaw.{Kept, seconds}
+use Rattle.cubic_walk.proofs.LeapsLaw.{Kept}
 use Rattle.cubic_walk.proofs.leaps.leaps.Given as goal
 
 abbrev pub invariant-loop-k : goal.invariant-loop-k

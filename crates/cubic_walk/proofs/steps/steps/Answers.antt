@@ -1,6 +1,5 @@
 -- `cubic_walk::steps::steps` meets its contract: each turn is one place of the search.
 use mathlib.Core.Path.{refl}
-use Prim.Native.Nat.{◌-◌}
 use native.Mathlib.Omega.{arith}
 use lib.ListN.{length}
 use Rattle.gray.specs.Numbers.{point_of}
@@ -94,7 +93,7 @@ loop-f-preserved c =
     let h = c.turn-h in
     let m = c.mark-found in
     let T = triple_at a.table.now a.n in
-    let e = step_note T a.n st (headed st v.result.position h.result _) _ _ (h.ensures.state st refl refl refl refl) m.ensures.count m.ensures.list.0 in
+    let e = step_note T a.n st (headed st v.result.position h.result _) _ _ (h.ensures.state st refl refl refl refl) m.ensures.count m.ensures.list in
     (l.invariant.0, walked_one 3 (walk_of a.n T) counts 3 (step_near (point_of 3 a.n) T) a.end a.budget l.left _ st _ l.invariant.1 g.goes e)
 
 pub returns : goal.returns

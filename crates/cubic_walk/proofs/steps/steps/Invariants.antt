@@ -1,5 +1,4 @@
 use mathlib.Core.Path.{◌≡◌}
-use Prim.Native.Nat.{◌-◌}
 use lib.ListN.{length}
 use Rattle.cubic_moves.specs.Step.{walk_of}
 use Rattle.cubic_tables.specs.Words.{triple_at}

@@ -1,6 +1,5 @@
 -- `opening::parts::fill` meets its contract: the parts of the record, from the coefficients that were written.
 use mathlib.Core.Path.{sym, ◌∙◌}
-use Prim.Native.Nat.{◌-◌}
 use native.Mathlib.Nat.{pow-zero}
 use native.Mathlib.Omega.{arith}
 use lib.ListN.{get_or}
@@ -21,12 +20,11 @@ value_at-value-requires c =
     ((within (quadratic c.args.n c.args.m c.args.table.now) c.requires.0).most, c.coefficients_into.auto.to ∙ c.requires.2)
 
 pub slots-slots-requires : goal.slots-slots-requires
-slots-slots-requires c =
-    (
-      (within (quadratic c.args.n c.args.m c.args.table.now) c.requires.0).most,
-      omega (arith, c.latest_place-q.ensures, c.requires.1, power_small (quadratic c.args.n c.args.m c.args.table.now) c.requires.0),
-      c.coefficients_into.auto.to ∙ c.requires.2,
-    )
+slots-slots-requires c = (
+  (within (quadratic c.args.n c.args.m c.args.table.now) c.requires.0).most,
+  omega (arith, c.latest_place-q.ensures, c.requires.1, power_small (quadratic c.args.n c.args.m c.args.table.now) c.requires.0),
+  c.coefficients_into.auto.to ∙ c.requires.2,
+)
 
 pub returns : goal.returns
 returns c =

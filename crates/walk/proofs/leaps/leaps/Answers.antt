@@ -1,8 +1,8 @@
 -- `walk::leaps::leaps` meets its contract: each turn is 27 places of the search.
 use mathlib.Core.Path.{◌≡◌, refl, ap}
-use Prim.Native.Nat.{ℕ, ◌-◌}
+use Prim.Native.Nat.{ℕ}
 use native.Mathlib.Omega.{arith}
-use lib.ListN.{length, length-map}
+use lib.ListN.{length}
 use borrow.Author.Tests.{not-false}
 use Rattle.walk.specs.Run.{state_of, search_of}
 use Rattle.walk.proofs.LeapsLaw.{kept_none, fits, kept_more, kept_done}
@@ -23,7 +23,7 @@ pub loop-top-init : goal.loop-top-init
 loop-top-init c =
     let a = c.args in
     let y = c.ready.ensures (not-false _ c.if-not-ready.false-raw) in
-    let k : length a.r.walker.slots ≡ 20 = simp length-map at c.well_formed.1.1.1.0.1.1.0.1.1.1.1.0.1.0.1 in
+    let k : length a.r.walker.slots ≡ 20 = c.well_formed.1.1.1.0.1.1.0.1.1.1.1.0.1.0.1 in
     (refl, rw c.opened-x.ensures (kept_none a.table.now a.n a.end c.requires.sized a.budget a.r a.list.now k c.requires.sane_2 y.1 y.2))
 
 pub room-requires : goal.room-requires
@@ -128,12 +128,12 @@ loop-top-preserved c =
     let o = c.room.ensures c.loop-top-test.true in
     let v = c.split-f in
     let f = fits a.table.now a.n a.end c.requires.sized k o.1 v.result.position v.result.rest v.ensures.position v.ensures.whole in
-    (l.invariant.0, kept_more a.table.now a.n a.end c.requires.sized k o.1 o.0 (omega (arith, o, l.invariant.0, m)) _ f.first f.three f.low _ _ _ c.block27-t.ensures)
+    (l.invariant.0, kept_more a.table.now a.n a.end c.requires.sized k o.1 o.0 (omega (arith, o, l.invariant.0, m)) _ f.first f.three f.low _ _ _ c.block27-t.ensures.state)
 
 pub returns : goal.returns
 returns c =
     let l = c.loop-top in
     let a = c.args in
-    let k : length a.r.walker.slots ≡ 20 = simp length-map at c.well_formed.1.1.1.0.1.1.0.1.1.1.1.0.1.0.1 in
+    let k : length a.r.walker.slots ≡ 20 = c.well_formed.1.1.1.0.1.1.0.1.1.1.1.0.1.0.1 in
     let d = kept_done a.table.now a.n a.end c.requires.sized a.r c.closed.result k c.opened-x.ensures l.invariant.1 (c.closed.ensures l.list) in
     record { state = d.state; sane = d.sane; less = (d.from, d.most) }

@@ -1,5 +1,4 @@
 use mathlib.Core.Path.{◌≡◌}
-use Prim.Native.Nat.{◌-◌}
 use lib.ListN.{length}
 use Rattle.walk.proofs.LeapsLaw.{Kept}
 use Rattle.walk.proofs.leaps.leaps.Given as goal

@@ -1,8 +1,8 @@
 -- `walk::steps::steps` meets its contract: each turn is one place of the search.
 use mathlib.Core.Path.{◌≡◌, refl}
-use Prim.Native.Nat.{◌-◌, ◌<◌}
+use Prim.Native.Nat.{◌<◌}
 use native.Mathlib.Omega.{arith}
-use lib.ListN.{length, length-map}
+use lib.ListN.{length}
 use Rattle.moves.specs.Moves.{headed, product}
 use Rattle.walk.specs.Run.{state_of}
 use Rattle.moves.proofs.MoveLaw.{step_note}
@@ -13,7 +13,7 @@ pub loop-f-init : goal.loop-f-init
 loop-f-init c =
     let a = c.args in
     let z = c.requires.sane_2 in
-    let k : length a.r.walker.slots ≡ 20 = simp length-map at c.well_formed.1.1.1.0.1.1.0.1.1.1.1.0.1.0.1 in
+    let k : length a.r.walker.slots ≡ 20 = c.well_formed.1.1.1.0.1.1.0.1.1.1.1.0.1.0.1 in
     (refl, walked_none a.table.now a.n a.end a.budget (state_of a.r a.list.now) k z.place z.found z.additions)
 
 pub offset_bounds-slots-b : goal.offset_bounds-slots-b
@@ -92,7 +92,7 @@ loop-f-preserved c =
     let m = c.mark-found in
     let T = product a.table.now a.n in
     let b : v.result.position < length l.slots = omega (arith, g.low, v.ensures.position, c.requires.sized.small, w.size) in
-    let e = step_note a.n T st (headed st v.result.position h.result) _ _ (h.ensures.state st refl refl refl b) m.ensures.count m.ensures.list.0 in
+    let e = step_note a.n T st (headed st v.result.position h.result) _ _ (h.ensures.state st refl refl refl b) m.ensures.count m.ensures.list in
     (l.invariant.0, walked_one a.table.now a.n a.end a.budget l.left _ st _ w g e)
 
 pub returns : goal.returns

@@ -1,5 +1,4 @@
 use mathlib.Core.Path.{◌≡◌}
-use Prim.Native.Nat.{◌-◌}
 use lib.ListN.{length}
 use Rattle.walk.proofs.WalkedLaw.{Walked, state_by}
 use Rattle.walk.proofs.steps.steps.Given as goal
