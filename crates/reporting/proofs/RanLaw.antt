@@ -4,7 +4,6 @@ use mathlib.Core.List.{List}
 use Prim.Native.Nat.{ℕ, ◌+◌, ◌-◌, ◌^◌}
 use native.Mathlib.Omega.{arith}
 use lib.ListN.{length}
-use Rattle.walks.specs.declared.Stop.{Stop}
 use Rattle.walks.specs.Calls.{Trail, stop_from, points_in, report_of, list_after}
 use Rattle.given.specs.Given.{Given}
 use Rattle.opening.specs.declared.Record.{Record}

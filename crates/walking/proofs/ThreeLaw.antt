@@ -1,12 +1,12 @@
 -- The walk of degree 3 from the opened record is the call on the walk of the system, and leaves the record opened where it came to.
 use mathlib.Core.Path.{◌≡◌, refl, sym, ap, subst, ◌∙◌}
-use mathlib.Core.Bool.{Bool, true}
+use mathlib.Core.Bool.{true}
 use mathlib.Core.Logic.{by_cases}
 use mathlib.Core.List.{List}
 use Prim.Native.Nat.{ℕ, ◌-◌, ◌^◌, ◌≤◌, ◌<◌}
 use native.Mathlib.Decide.{dec_lt}
 use native.Mathlib.Omega.{arith}
-use lib.ListN.{length, get_or, get_or-eq_default}
+use lib.ListN.{length, get_or-eq_default}
 use Rattle.trits.specs.Trit.{none}
 use Rattle.held.proofs.FlatLaw.{Ext}
 use Rattle.cubics.specs.Cubic.{cubic_of}

@@ -22,8 +22,9 @@ returns-then-rest-eq1 c =
     let a = c.args in
     let q = c.requires.place_bound in
     let v = c.plus-v.ensures in
-    let z = alone a.place a.b (q.2 ∙ ap (λ (x : ℕ). 3 ^ a.b * x) c.if-rest-eq1.true) in
-    let h : 0 < a.place = above a.place a.b a.rest q.2 (omega (arith, c.if-rest-eq1)) in record {
+    let one : a.rest ≡ 1 = omega arith in
+    let z = alone a.place a.b (q.2 ∙ ap (λ (x : ℕ). 3 ^ a.b * x) one) in
+    let h : 0 < a.place = above a.place a.b a.rest q.2 (omega arith) in record {
       state = (λ st hv ha hw hs.
           turn_one (triple_at a.table.now a.n) a.place a.b st _ h q.1 z (sym hs) (v.0 ∙ rw (hv, hs)) (omega (arith, v.1, ha)) ∙ ap (headed st a.b _) hw);
       count = omega (arith, v.1);
@@ -34,7 +35,7 @@ overflow_add-c c =
     let a = c.args in
     let q = c.requires.place_bound in
     let g = c.split-f.ensures in
-    let o : 1 < a.rest = omega (arith, c.if-rest-eq1, c.if-rest-eq0) in
+    let o : 1 < a.rest = omega arith in
     let w = heads a.n a.place a.b a.rest _ _ q.0 q.1 q.2 o g.position g.whole (g.above (omega arith)) in
     omega (arith, w.low, c.requires.sized.small)
 
@@ -49,7 +50,7 @@ overflow_sub-x c =
     let a = c.args in
     let q = c.requires.place_bound in
     let g = c.split-f.ensures in
-    let o : 1 < a.rest = omega (arith, c.if-rest-eq1, c.if-rest-eq0) in
+    let o : 1 < a.rest = omega arith in
     omega (arith, g.above (omega arith))
 
 pub head-requires : goal.head-requires
@@ -57,7 +58,7 @@ head-requires c =
     let a = c.args in
     let q = c.requires.place_bound in
     let g = c.split-f.ensures in
-    let o : 1 < a.rest = omega (arith, c.if-rest-eq1, c.if-rest-eq0) in
+    let o : 1 < a.rest = omega arith in
     let w = heads a.n a.place a.b a.rest _ _ q.0 q.1 q.2 o g.position g.whole (g.above (omega arith)) in
     record { sized = c.requires.sized; kb_value = (c.key-kb.ensures.0, omega arith, w.low, w.rest, q.3) }
 
@@ -66,7 +67,7 @@ returns c =
     let a = c.args in
     let q = c.requires.place_bound in
     let g = c.split-f.ensures in
-    let o : 1 < a.rest = omega (arith, c.if-rest-eq1, c.if-rest-eq0) in
+    let o : 1 < a.rest = omega arith in
     let w = heads a.n a.place a.b a.rest _ _ q.0 q.1 q.2 o g.position g.whole (g.above (omega arith)) in
     let h = c.head.ensures in
     record { state = (λ st hv ha hw hs. ap (λ (ps : List ℕ). move_of (triple_at a.table.now a.n) ps st) w.positions ∙ h.state st hv ha hw hs); count = h.count }

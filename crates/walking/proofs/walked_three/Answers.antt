@@ -3,7 +3,6 @@ use mathlib.Core.Path.{ap, ◌∙◌}
 use mathlib.Core.List.{List}
 use Prim.Native.Nat.{ℕ}
 use native.Mathlib.Omega.{arith}
-use lib.ListN.{length, length-map}
 use Rattle.cubic_walk.specs.Run.{fresh, search_of}
 use Rattle.given.specs.declared.Degree.TheVariants.{Three}
 use Rattle.given.specs.Given.{cubic}
@@ -24,6 +23,6 @@ returns c =
     let a = c.args in
     let x = c.run-t in
     three_leaves a.n a.m a.table.now c.requires.0 (whole_of Three a.s a.seconds.now) c.requires.1 a.budget a.end a.list.now _ x.result c.requires.2
-    (simp length-map at x.type-inv.1.1.0.1.1.1.1.0.1.0.1)
+    x.type_inv.1.1.0.1.1.1.1.0.1.0.1
     (x.ensures.state ∙ ap (λ (y : List ℕ). search_of a.table.now a.n a.end a.budget (fresh (record { place = a.s.place.0; value = a.s.value; slots = a.s.slots; seconds = y }) a.list.now)) c.copy.ensures)
     _ c.copy-2.ensures

@@ -1,7 +1,6 @@
 -- `walking::walked_two` meets its contract: the walk from the opened record.
 use mathlib.Core.List.{[]}
 use native.Mathlib.Omega.{arith}
-use lib.ListN.{length, length-map}
 use Rattle.given.specs.declared.Degree.TheVariants.{Two}
 use Rattle.given.specs.Given.{quadratic}
 use Rattle.opening.specs.First.{whole_of}
@@ -24,4 +23,4 @@ returns c =
     let a = c.args in
     let x = c.run-t in
     two_leaves a.n a.m a.table.now c.requires.0 (whole_of Two a.f []) c.requires.1 a.budget a.end a.list.now _ x.result c.requires.2
-    (simp length-map at x.type-inv.1.1.0.1.1.1.1.0.1.0.1) x.ensures.state
+    x.type_inv.1.1.0.1.1.1.1.0.1.0.1 x.ensures.state

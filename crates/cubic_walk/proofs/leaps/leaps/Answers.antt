@@ -65,7 +65,7 @@ overflow_add-c c =
     let v = c.split-f in
     let f = first a.table.now a.n a.end c.requires.sized k o.1 v.result.position v.result.rest v.ensures.position v.ensures.whole v.ensures.above in
     let g = c.split-g in
-    let h = seconds a.n l.x _ v.result.rest g.result.position g.result.rest f c.if-f-eq1.false g.ensures.position g.ensures.whole g.ensures.above in
+    let h = seconds a.n l.x _ v.result.rest g.result.position g.result.rest f (omega arith) g.ensures.position g.ensures.whole g.ensures.above in
     omega (arith, h.low, c.requires.sized.small)
 
 pub offset_bounds-slots-b : goal.offset_bounds-slots-b
@@ -122,7 +122,7 @@ overflow_sub-rest c =
     let v = c.split-f in
     let f = first a.table.now a.n a.end c.requires.sized k o.1 v.result.position v.result.rest v.ensures.position v.ensures.whole v.ensures.above in
     let g = c.split-g in
-    let h = seconds a.n l.x _ v.result.rest g.result.position g.result.rest f c.if-f-eq1.false g.ensures.position g.ensures.whole g.ensures.above in
+    let h = seconds a.n l.x _ v.result.rest g.result.position g.result.rest f (omega arith) g.ensures.position g.ensures.whole g.ensures.above in
     omega (arith, h.some)
 
 pub block27-t-requires : goal.block27-t-requires
@@ -135,7 +135,7 @@ block27-t-requires c =
     let v = c.split-f in
     let f = first a.table.now a.n a.end c.requires.sized k o.1 v.result.position v.result.rest v.ensures.position v.ensures.whole v.ensures.above in
     let g = c.split-g in
-    let h = seconds a.n l.x _ v.result.rest g.result.position g.result.rest f c.if-f-eq1.false g.ensures.position g.ensures.whole g.ensures.above in
+    let h = seconds a.n l.x _ v.result.rest g.result.position g.result.rest f (omega arith) g.ensures.position g.ensures.whole g.ensures.above in
     let z = c.requires.sized in record { sized = record { some = z.some; small = z.small; table = z.table; end = omega arith }; k_value = (l.invariant.1, l.invariant.2 _ f.low); place_nonzero = (k.above, k.aligned, f.end, h.positions); le_b = (f.three, omega arith, h.low, h.rest); found_in_bounds = (omega (arith, o, l.invariant.0, m), f.count) }
 
 pub offset_bounds-slots-b-in-loop-k : goal.offset_bounds-slots-b-in-loop-k
