@@ -21,7 +21,7 @@ returns c =
     let r = c.args.r in
     let slots : length r.slots ≡ 20 = (LL.owed T.the_type T'.the_laws r _ c.well_formed.1.1.0).1.1.1.1.0.1.0.1 in
     let e = c.finish_parts.ensures in
-    (e.0, e.1.0 ∙ whole c.args.a r _ c.requires.0 slots (seconds_long r _ c.well_formed.1.1.0), e.1.1)
+    (e.0, e.1 ∙ whole c.args.a r _ c.requires.0 slots (seconds_long r _ c.well_formed.1.1.0), e.2)
   where
     whole : (a : Answer) (r : Record) (b : List ℕ) → length b ≡ 3720 → length r.slots ≡ 20 → length r.seconds ≡ 420
         → parts_bytes a (first_of r) r.seconds b ≡ record_bytes a r b
