@@ -4,8 +4,11 @@ set -e
 cd "$(dirname "$0")/.."
 out=$(mktemp -d)
 trap 'rm -rf "$out"' EXIT
-rt staticlib vayudrit
-lib=target/staticlib/libvayudrit.a
+(cd crates/vayudrit && rt lib) >"$out/said" 2>&1 || {
+    cat "$out/said" >&2
+    exit 1
+}
+lib=crates/vayudrit/out/libvayudrit.a
 
 # What it asks of the program that links it: memcpy and memset, as the header says, and nothing else.
 if nm -u "$lib" | awk 'NF == 2 { print $2 }' | grep -v -x -e memcpy -e memset; then

@@ -6,9 +6,8 @@ use Prim.Native.Nat.{ℕ, ◌-◌, ◌%◌}
 use native.Mathlib.Nat.{mod-mod}
 use native.Mathlib.Decide.{dec_lt}
 use native.Mathlib.Omega.{arith}
-use lib.ListN.{length, get_or}
 use Rattle.trits.specs.declared.Vector.{Vector}
-use Rattle.trits.specs.Trit.{of_trits, none}
+use Rattle.trits.specs.Trit.{of_trits}
 use Rattle.trits.proofs.ExtLaw.{of_ext}
 use Rattle.trits.proofs.HoldLaw.{holds_is}
 use Rattle.positions.specs.Positions.{latest}

@@ -1,19 +1,18 @@
 -- The value of a cubic as the code sums it: the products of each pair, the pairs of each unknown, the unknowns.
-use mathlib.Core.Path.{◌≡◌, refl, sym, ap, ap₂, ◌∙◌}
+use mathlib.Core.Path.{◌≡◌, sym, ap, ap₂, ◌∙◌}
 use mathlib.Core.List.{List}
-use Prim.Native.Nat.{ℕ, zero, suc, ◌+◌, ◌-◌, ◌*◌, ◌%◌, ◌^◌, ◌≤◌, ◌<◌}
+use Prim.Native.Nat.{ℕ, suc, ◌+◌, ◌-◌, ◌*◌, ◌%◌, ◌^◌, ◌≤◌, ◌<◌}
 use native.Mathlib.Numerals.{add-one}
 use native.Mathlib.Omega.{arith}
-use lib.ListN.{length, get_or}
+use lib.ListN.{get_or}
 use Rattle.residues.specs.Sums.{sum}
-use Rattle.residues.proofs.ModLaw.{Cong, csym, cdrop}
+use Rattle.residues.proofs.ModLaw.{cdrop}
 use Rattle.residues.proofs.SumLaw.{sum_ext, sum_add, sum_scale}
 use Rattle.trits.specs.declared.Vector.{Vector}
 use Rattle.trits.specs.Trit.{Holds, of_trits}
 use Rattle.trits.proofs.ExtLaw.{of_ext}
 use Rattle.trits.proofs.HoldLaw.{holds_is, holds_ext}
 use Rattle.gray.specs.Numbers.{digit}
-use Rattle.polynomials.specs.Poly.{value_of}
 use Rattle.tables.specs.Monomials.{row_start, index_of}
 use Rattle.tables.specs.Words.{entry}
 use Rattle.tables.proofs.IndexLaw.{row_ge}

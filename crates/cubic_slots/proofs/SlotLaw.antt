@@ -2,7 +2,7 @@
 use mathlib.Core.Path.{◌≡◌, refl, sym, ap, ap₂, ◌∙◌}
 use mathlib.Core.Logic.{by_cases}
 use mathlib.Core.List.{List, [], ◌∷◌}
-use Prim.Native.Nat.{ℕ, zero, suc, ◌+◌, ◌-◌, ◌*◌, ◌%◌, ◌^◌, ◌≤◌, ◌<◌}
+use Prim.Native.Nat.{ℕ, zero, suc, ◌+◌, ◌*◌, ◌%◌, ◌^◌, ◌≤◌, ◌<◌}
 use native.Mathlib.Nat.{add-zero}
 use native.Mathlib.Numerals.{add-one}
 use native.Mathlib.Decide.{ℕ_discrete, dec_lt}
@@ -18,8 +18,7 @@ use Rattle.trits.specs.Words.{Added}
 use Rattle.trits.proofs.HoldLaw.{holds_ext, holds_add}
 use Rattle.held.specs.Held as held
 use Rattle.held.specs.Visits.{gathered, visits}
-use Rattle.held.proofs.CountLaw.{held_counts_two, gathered_cong, gathered_const}
-use Rattle.held.proofs.VisitLaw.{visits_fall, visits_thrice}
+use Rattle.held.proofs.CountLaw.{held_counts_two}
 use Rattle.held.proofs.ThirdsLaw.{gathered_fall, visits_pair_fall}
 use Rattle.cubics.specs.Cubic.{Cubic, cubic_of}
 use Rattle.cubics.specs.Whole.{back_cubic}

@@ -1,6 +1,6 @@
 -- Where the pairs and the triples stand: their numbers are within the counts. Over n up to 20 that is computed.
 use mathlib.Core.Path.{◌≡◌, refl, sym, ap, ◌∙◌}
-use mathlib.Core.Bool.{Bool, true, false, ◌&&◌, ◌||◌}
+use mathlib.Core.Bool.{Bool, true, ◌&&◌, ◌||◌}
 use mathlib.Core.Logic.{by_cases}
 use Prim.Native.Nat.{ℕ, zero, suc, ◌+◌, ◌-◌, ◌*◌, ◌/◌, ◌≤◌, ◌<◌}
 use native.Mathlib.Decide.{ℕ_discrete}
@@ -11,7 +11,7 @@ use Rattle.trits.proofs.Bits.{and_left, and_right}
 use Rattle.polynomials.specs.Poly.{Poly}
 use Rattle.tables.specs.Monomials.{count_of, row_start, index_of, nth}
 use Rattle.tables.proofs.IndexLaw.{index_closed}
-use Rattle.tables.proofs.MonomialLaw.{nth_quad, Product, find}
+use Rattle.tables.proofs.MonomialLaw.{nth_quad, find}
 use Rattle.cubic_tables.specs.Order.{triple_start, triple_index, key_of, cubic_count, pair_of, pairs_of, seat_of}
 use Rattle.cubic_tables.proofs.OrderLaw.{index_base, pair_is}
 

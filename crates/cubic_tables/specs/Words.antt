@@ -1,10 +1,10 @@
 -- Cubic word tables: high then low for each monomial, equation e at bit e.
-use Rattle.std.specs.Prelude.{List, [], ◌∷◌, ℕ, zero, suc, ◌+◌, ◌*◌, ℤ}
+use Rattle.std.specs.Prelude.{List, [], ◌∷◌, ℕ, zero, suc, ◌+◌, ℤ}
 use Rattle.residues.specs.Sums.{same}
 use Rattle.trits.specs.declared.Vector.{Vector}
 use Rattle.trits.specs.Trit.{trit, of_trits}
 use Rattle.gray.specs.Numbers.{digit}
-use Rattle.tables.specs.Monomials.{count_of, index_of}
+use Rattle.tables.specs.Monomials.{index_of}
 use Rattle.tables.specs.Words.{entry, tabled, Entries, packed_rows}
 use Rattle.cubics.specs.Cubic.{Cubic, cubic_of}
 use Rattle.held.specs.Held as held

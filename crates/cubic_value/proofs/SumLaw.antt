@@ -9,7 +9,7 @@ use native.Mathlib.Decide.{ℕ_discrete, dec_lt}
 use native.Mathlib.Omega.{arith}
 use Rattle.residues.specs.Sums.{sum}
 use Rattle.residues.proofs.ModLaw.{Cong, crefl, cof, csym, ◌⨾◌, cadd, cmul}
-use Rattle.residues.proofs.SumLaw.{sum_ext, sum_zero, sum_cong, sum_scale}
+use Rattle.residues.proofs.SumLaw.{sum_zero, sum_cong, sum_scale}
 use Rattle.trits.specs.declared.Vector.{Vector}
 use Rattle.trits.specs.Trit.{Holds, of_trits}
 use Rattle.trits.specs.Words.{Added, Scaled}

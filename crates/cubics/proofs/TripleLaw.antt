@@ -4,11 +4,10 @@ use mathlib.Core.Bool.{true}
 use mathlib.Core.Logic.{by_cases}
 use mathlib.Core.List.{List, [], ◌∷◌}
 use Prim.Native.Nat.{ℕ, zero, suc, ◌+◌, ◌-◌, ◌*◌, ◌<◌}
-use native.Mathlib.Nat.{add-zero, mul-zero}
 use native.Mathlib.Decide.{ℕ_discrete}
 use native.Mathlib.Omega.{arith}
 use Rattle.residues.specs.Sums.{sum, same}
-use Rattle.residues.proofs.ModLaw.{Cong, crefl, cof, ◌⨾◌, cadd, cmul}
+use Rattle.residues.proofs.ModLaw.{Cong, crefl, cof, ◌⨾◌, cadd}
 use Rattle.residues.proofs.SumLaw.{same_self, same_other, sum_ext, sum_zero}
 use Rattle.positions.specs.Positions.{positions}
 use Rattle.polynomials.specs.Poly.{Poly, eval, slope}
@@ -19,7 +18,7 @@ use Rattle.cubics.specs.Rows.{under_of, line_of, times_of, triple_of}
 use Rattle.held.proofs.HeldLaw.{begins_append}
 use Rattle.held.proofs.StemLaw.{Stem, root, grow, grow_self, grow_other, grow_at, one_run}
 use Rattle.held.proofs.ApartLaw.{dir_of, dir_self, dir_other, one_dir}
-use Rattle.held.proofs.FlatLaw.{Fun, plus, delta, delta_like}
+use Rattle.held.proofs.FlatLaw.{plus, delta, delta_like}
 use Rattle.held.proofs.ConstantLaw.{nowhere, deltas, entry_is}
 use Rattle.cubics.proofs.CubicLaw.{flat_cubic, ext_cubic}
 use Rattle.cubics.proofs.CubicFormLaw.{eval3_is}

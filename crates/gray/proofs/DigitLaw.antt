@@ -1,6 +1,6 @@
 -- Digits and numbers undo each other, over the base: by taking the lowest digit off.
 use mathlib.Core.Path.{◌≡◌, refl, sym, ap, ap₂, ◌∙◌}
-use Prim.Native.Nat.{ℕ, zero, suc, ◌+◌, ◌-◌, ◌*◌, ◌/◌, ◌%◌, ◌^◌, ◌<◌, ◌≤◌}
+use Prim.Native.Nat.{ℕ, zero, suc, ◌+◌, ◌*◌, ◌/◌, ◌%◌, ◌^◌, ◌<◌, ◌≤◌}
 use native.Mathlib.Nat.{pow-suc, pow-zero, div-one, mul_comm, mod-lt, mod-eq_of_lt, div-eq_of_lt, div-add-mod, div-div-eq-div-mul, div-lt_iff_lt-mul, mul-le-mul_left, pow-le-pow_right}
 use native.Mathlib.Omega.{arith}
 use Rattle.gray.specs.Numbers.{digit, number}

@@ -1,16 +1,16 @@
 -- From one place to the next the point changes in one digit; and how it changes between two moves of an unknown.
-use mathlib.Core.Path.{◌≡◌, refl, sym, ap, ◌∙◌}
+use mathlib.Core.Path.{◌≡◌, sym, ap, ◌∙◌}
 use mathlib.Core.Logic.{by_cases, ◌⊎◌, inl, inr, ⊎_elim}
-use Prim.Native.Nat.{ℕ, zero, suc, ◌+◌, ◌-◌, ◌*◌, ◌/◌, ◌%◌, ◌^◌, ◌<◌, ◌≤◌}
-use native.Mathlib.Nat.{add-zero, zero-add, mul-add-div, mul-add-mod_self_left, mod-eq_of_lt, div-eq_of_lt, mod-lt, div-add-mod, div-one, div-div-eq-div-mul, pow-suc, pow-zero, pow-succ', mul_comm, mul-suc, suc-add}
-use native.Mathlib.Decide.{ℕ_discrete, dec_lt}
+use Prim.Native.Nat.{ℕ, zero, suc, ◌+◌, ◌-◌, ◌*◌, ◌/◌, ◌%◌, ◌^◌, ◌<◌}
+use native.Mathlib.Nat.{add-zero, zero-add, mul-add-div, mul-add-mod_self_left, mod-eq_of_lt, div-eq_of_lt, mod-lt, div-add-mod, div-one, div-div-eq-div-mul, pow-suc, pow-zero, mul_comm, mul-suc, suc-add}
+use native.Mathlib.Decide.{dec_lt}
 use native.Mathlib.Numerals.{add-one}
 use native.Mathlib.Omega.{arith}
 use Rattle.positions.specs.Positions.{lowest_of, before}
 use Rattle.positions.proofs.LowestLaw.{of_zero, of_other}
 use Rattle.residues.specs.Sums.{same}
 use Rattle.gray.specs.Numbers.{digit, point_digit}
-use Rattle.residues.proofs.ModLaw.{Cong, crefl, cof, csym, ◌⨾◌, cdrop, cadd, cmul, cwhole, cancel, cless, csmall}
+use Rattle.residues.proofs.ModLaw.{Cong, crefl, cof, csym, ◌⨾◌, cdrop, cadd, cwhole, cancel, cless, csmall}
 
 module _ (q : ℕ) (two : 1 < q) where
   pos : 0 < q

@@ -1,13 +1,12 @@
 -- The latest move of an unknown, by its digits.
 use mathlib.Core.Path.{◌≡◌, refl, sym, ap, ap₂, ◌∙◌}
-use mathlib.Core.Logic.{by_cases, ◌⊎◌, inl, inr, ⊎_elim}
+use mathlib.Core.Logic.{by_cases, ⊎_elim}
 use Prim.Native.Nat.{ℕ, zero, suc, ◌+◌, ◌-◌, ◌*◌, ◌/◌, ◌%◌, ◌^◌, ◌<◌, ◌≤◌}
-use native.Mathlib.Nat.{div-eq_of_lt, add-zero, zero-add, mul-one, one-mul, mul-suc, mul_comm, pow-zero, pow-suc, pow-succ', div-one, div-div-eq-div-mul, one-le-pow, mod-eq_of_lt, div-add-mod, mod-lt, mul-div_right}
+use native.Mathlib.Nat.{div-eq_of_lt, add-zero, mul-one, one-mul, mul-suc, pow-zero, pow-succ', div-one, div-div-eq-div-mul, one-le-pow, mod-eq_of_lt, div-add-mod, mul-div_right}
 use native.Mathlib.Decide.{ℕ_discrete}
 use native.Mathlib.Omega.{arith}
 use Rattle.positions.specs.Positions.{lowest_of, before, last_of, latest}
 use Rattle.positions.proofs.LowestLaw.{of_zero, of_other, of_times, of_le}
-use Rattle.residues.specs.Sums.{same}
 use Rattle.gray.proofs.GrayLaw.{Stays, Carries, carry, odd}
 use Rattle.residues.proofs.SumLaw.{same_self, same_other}
 

@@ -2,14 +2,14 @@
 use mathlib.Core.Path.{◌≡◌, refl, sym, ap, ap₂, ◌∙◌}
 use mathlib.Core.Bool.{true}
 use mathlib.Core.Logic.{⊎_elim, by_cases}
-use mathlib.Core.List.{List, [], ◌∷◌}
+use mathlib.Core.List.{[], ◌∷◌}
 use Prim.Native.Nat.{ℕ, zero, suc, ◌+◌, ◌-◌, ◌*◌, ◌/◌, ◌%◌, ◌^◌, ◌<◌, ◌≤◌}
-use native.Mathlib.Nat.{add-zero, pow-suc, pow-zero, div-one, mod-lt, div-div-eq-div-mul, mul_comm}
+use native.Mathlib.Nat.{pow-suc, pow-zero, div-one, mod-lt, div-div-eq-div-mul, mul_comm}
 use native.Mathlib.Decide.{dec_lt}
 use native.Mathlib.Omega.{arith}
 use Rattle.residues.specs.Sums.{sum}
 use Rattle.residues.proofs.ModLaw.{Cong, crefl, cof, csym, ◌⨾◌, cdrop, cadd, cmul, cwhole}
-use Rattle.residues.proofs.SumLaw.{sum_ext, sum_add, sum_cong}
+use Rattle.residues.proofs.SumLaw.{sum_ext, sum_cong}
 use Rattle.positions.specs.Positions.{positions}
 use Rattle.positions.proofs.PowerLaw.{power_positions}
 use Rattle.gray.proofs.GrayLaw.{Stays, Carries, carry}
@@ -18,8 +18,8 @@ use Rattle.held.specs.Visits.{gathered, visits}
 use Rattle.held.specs.Thirds.{turns_of, low_sum, next_sum, same_sum, lows_sum}
 use Rattle.held.proofs.HeldLaw.{begins_self}
 use Rattle.held.proofs.StemLaw.{stem_of, one_run}
-use Rattle.held.proofs.VisitLaw.{roomy, roomy_more, roomy_same, roomy_ext, gathered_number, visits_number, roomy_one}
-use Rattle.held.proofs.ThirdsLaw.{two, odd, pos, turns_low, turns_up, roomy_thirds, roomy_firsts, roomy_ups, roomy_next, roomy_far, sum_turns_up, sum_turns_low, part_is, three_times, visits_pair_far, visits_pair_same, gathered_far, gathered_near, gathered_twice}
+use Rattle.held.proofs.VisitLaw.{roomy, roomy_more, roomy_same, roomy_ext, gathered_number, roomy_one}
+use Rattle.held.proofs.ThirdsLaw.{two, pos, turns_low, turns_up, roomy_thirds, roomy_firsts, roomy_ups, roomy_next, roomy_far, sum_turns_up, sum_turns_low, part_is, three_times, visits_pair_far, visits_pair_same, gathered_far, gathered_near, gathered_twice}
 
 -- ---- places that begin with one position
 above_one : (a y : ℕ) → 0 + a * suc y ≡ a * suc y

@@ -2,15 +2,14 @@
 use mathlib.Core.Path.{◌≡◌, refl, sym, ap, ap₂, ◌∙◌}
 use mathlib.Core.Bool.{true}
 use mathlib.Core.Logic.{⊎_elim, by_cases}
-use mathlib.Core.List.{List, [], ◌∷◌}
+use mathlib.Core.List.{[], ◌∷◌}
 use Prim.Native.Nat.{ℕ, zero, suc, ◌+◌, ◌-◌, ◌*◌, ◌/◌, ◌%◌, ◌^◌, ◌<◌, ◌≤◌}
 use native.Mathlib.Nat.{add-zero, pow-suc, pow-zero, div-one, mod-lt, div-div-eq-div-mul, mul-div-mul_left, mul_comm, one-le-pow}
-use native.Mathlib.Decide.{ℕ_discrete, dec_lt}
+use native.Mathlib.Decide.{dec_lt}
 use native.Mathlib.Omega.{arith}
 use lib.Pow.{pow-add}
 use Rattle.residues.specs.Sums.{sum}
 use Rattle.residues.proofs.ModLaw.{Cong, crefl, cof, csym, ◌⨾◌, cdrop, cadd, cmul, cwhole, cancel}
-use Rattle.residues.proofs.SumLaw.{sum_ext}
 use Rattle.positions.specs.Positions.{positions}
 use Rattle.gray.specs.Numbers.{point_digit}
 use Rattle.gray.proofs.GrayLaw.{Stays, Carries, carry, point_low, point_next}
@@ -18,7 +17,6 @@ use Rattle.held.specs.Held.{begins, first_of}
 use Rattle.held.specs.Visits.{gathered, visits}
 use Rattle.held.specs.Thirds.{turns_of, low_sum}
 use Rattle.held.proofs.HeldLaw.{begins_self}
-use Rattle.held.proofs.StemLaw.{stem_of}
 use Rattle.held.proofs.PastLaw.{top}
 use Rattle.held.proofs.ExactLaw.{pair_same, pair_other}
 use Rattle.held.proofs.CountLaw.{gathered_none}

@@ -16,7 +16,7 @@ use Rattle.held.specs.Stands.{Rises}
 use Rattle.held.specs.Visits.{gathered, visits}
 use Rattle.held.proofs.HeldLaw.{either, begins_self, begins_take}
 use Rattle.held.proofs.StemLaw.{Stem, root, grow, stem_of, place_at, grow_self, grow_other, grow_at, one_run, stem_snoc}
-use Rattle.held.proofs.PastLaw.{top, Above, above, above_other, above_begins, first_place}
+use Rattle.held.proofs.PastLaw.{top, above, above_other, above_begins, first_place}
 use Rattle.held.proofs.RiseLaw.{rises_take, positions_rise}
 use Rattle.held.proofs.ExactLaw.{triple_same, triple_over}
 use Rattle.held.proofs.CountLaw.{gathered_more, gathered_same, gathered_none}

@@ -2,13 +2,12 @@
 use mathlib.Core.Path.{◌≡◌, refl, sym, ap, ap₂, ◌∙◌}
 use mathlib.Core.Logic.{⊎_elim, ◌⊎◌}
 use mathlib.Core.List.{[]}
-use Prim.Native.Nat.{ℕ, ◌+◌, ◌-◌, ◌≤◌, ◌<◌}
+use Prim.Native.Nat.{ℕ, ◌+◌, ◌-◌, ◌≤◌}
 use native.Mathlib.Nat.{add-zero}
 use native.Mathlib.Omega.{arith}
 use lib.ListN.{length, length-append}
-use Rattle.walks.specs.declared.Report.{Report}
 use Rattle.walks.specs.Calls.{Trail, zeros_in, points_in, report_of, report_in}
-use Rattle.walks.proofs.CallLaw.{zeros_add, points_none, points_full, points_le, points_one, zeros_room}
+use Rattle.walks.proofs.CallLaw.{zeros_add, points_none, points_full, points_le, zeros_room}
 use Rattle.walks.proofs.JoinLaw.{join}
 
 pub zeros_none : (T : Trail) (p : ℕ) → zeros_in T p 0 ≡ []

@@ -1,5 +1,5 @@
 -- The whole: a refusal leaves everything, and else the list's words are what the search says.
-use mathlib.Core.Path.{◌≡◌, refl, sym, ap, ap₂, ◌∙◌}
+use mathlib.Core.Path.{◌≡◌, sym, ap, ◌∙◌}
 use mathlib.Core.List.{List}
 use Prim.Native.Nat.{ℕ, ◌/◌}
 use lib.ListN.{length}

@@ -2,7 +2,7 @@
 use mathlib.Core.Path.{◌≡◌, refl, sym, ap, ap₂, ◌∙◌}
 use mathlib.Core.Bool.{Bool, true, true≢false}
 use mathlib.Core.List.{List, ◌++◌}
-use Prim.Native.Nat.{ℕ, ◌+◌, ◌-◌, ◌*◌, ◌^◌, ◌≤◌}
+use Prim.Native.Nat.{ℕ, ◌-◌, ◌*◌, ◌^◌, ◌≤◌}
 use native.Mathlib.Omega.{arith}
 use lib.ListN.{length, take, drop}
 use lib.Seq.{take_at}
@@ -17,7 +17,7 @@ use Rattle.tables.specs.Answers.{copy_verdict, differences_after}
 use Rattle.tables.proofs.WordLaw.{words_table}
 use Rattle.tables.proofs.RoundLaw.{differences_table}
 use Rattle.graphs.specs.Edges.{Ends}
-use Rattle.graphs.specs.Reading.{Outcome, graph, refused, outcome_of}
+use Rattle.graphs.specs.Reading.{Outcome, graph, outcome_of}
 use Rattle.graphs.specs.Drawn.{Drawn}
 use Rattle.graphs.proofs.SoundLaw.{text_drawn}
 use Rattle.reader.specs.declared.ReadAnswer.TheVariants as answer

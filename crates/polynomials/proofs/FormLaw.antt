@@ -1,20 +1,16 @@
 -- The same facts in the words of the paper: the value as a sum in monomial order, the difference as a difference, the table at q = 3, the round trips as equations, and the latest move.
 use mathlib.Core.Path.{◌≡◌, refl, sym, ap, ap₂, ◌∙◌}
-use mathlib.Core.Logic.{by_cases, ◌⊎◌, inl, inr, ⊎_elim}
-use Prim.Native.Nat.{ℕ, zero, suc, ◌+◌, ◌-◌, ◌*◌, ◌/◌, ◌%◌, ◌^◌, ◌<◌, ◌≤◌}
-use native.Mathlib.Nat.{mod-lt, add-zero, mul-one, mul-zero, one-le-pow, mod-eq_of_lt}
-use native.Mathlib.Decide.{ℕ_discrete, dec_lt}
+use mathlib.Core.Logic.{by_cases}
+use Prim.Native.Nat.{ℕ, zero, suc, ◌+◌, ◌-◌, ◌*◌, ◌%◌, ◌<◌}
+use native.Mathlib.Nat.{mod-lt, add-zero}
+use native.Mathlib.Decide.{ℕ_discrete}
 use native.Mathlib.Omega.{arith}
-use Rattle.positions.specs.Positions.{lowest_of}
-use Rattle.positions.proofs.LowestLaw.{of_le, of_times, of_level, of_other}
 use Rattle.residues.specs.Sums.{sum, same}
 use Rattle.polynomials.specs.Poly.{Poly, value_of, change_by, change_of, eval, diff, prev, table_of, back_of, prev_of, bumped}
-use Rattle.positions.specs.Positions.{latest}
-use Rattle.residues.proofs.ModLaw.{Cong, crefl, cof, csym, ◌⨾◌, cdrop, cadd, cmul, cancel, cminus, csmall}
+use Rattle.residues.proofs.ModLaw.{Cong, crefl, cof, csym, ◌⨾◌, cdrop, cadd, cminus, csmall}
 use Rattle.residues.proofs.SumLaw.{sum_scale, sum_ext, sum_add}
 use Rattle.polynomials.proofs.PolyLaw.{Next, diff_is}
 use Rattle.polynomials.proofs.TableLaw.{same_is, other_is, back_same, back_other, back_table_lin, back_table_same, back_table_other, table_back_lin, table_back_same, table_back_other}
-use Rattle.gray.proofs.LatestLaw.{latest_self, latest_other}
 
 -- the value, summed in the order of the monomials
 pub rows : Poly → ℕ → (ℕ → ℕ) → ℕ

@@ -4,12 +4,12 @@ use mathlib.Core.Path.{◌≡◌, refl, sym, ap, ap₂, subst, ◌∙◌}
 use mathlib.Core.Bool.{true}
 use mathlib.Core.Logic.{by_cases}
 use mathlib.Core.List.{List, [], ◌∷◌}
-use Prim.Native.Nat.{ℕ, zero, suc, ◌+◌, ◌-◌, ◌*◌, ◌%◌, ◌^◌, ◌<◌, ◌≤◌}
+use Prim.Native.Nat.{ℕ, zero, suc, ◌+◌, ◌-◌, ◌*◌, ◌^◌, ◌<◌, ◌≤◌}
 use native.Mathlib.Nat.{add-zero, one-le-pow}
 use native.Mathlib.Decide.{ℕ_discrete}
 use native.Mathlib.Omega.{arith}
-use Rattle.residues.specs.Sums.{sum, same}
-use Rattle.residues.proofs.ModLaw.{Cong, crefl, cof, csym, ◌⨾◌, cadd, cmul, cancel, cminus}
+use Rattle.residues.specs.Sums.{same}
+use Rattle.residues.proofs.ModLaw.{Cong, crefl, cof, csym, ◌⨾◌, cadd, cancel, cminus}
 use Rattle.residues.proofs.SumLaw.{sum_zero, sum_both, sum_twice, sum_one}
 use Rattle.gray.specs.Numbers.{point_digit}
 use Rattle.positions.specs.Positions.{lowest_of, positions, latest}
@@ -19,14 +19,14 @@ use Rattle.gray.proofs.LatestLaw.{latest_start, latest_move}
 use Rattle.held.specs.Held.{begins, first_of, change, held, entry, along}
 use Rattle.held.specs.Stands.{Rises}
 use Rattle.held.proofs.HeldLaw.{begins_append, held_step}
-use Rattle.held.proofs.StemLaw.{Stem, root, grow}
+use Rattle.held.proofs.StemLaw.{root, grow}
 use Rattle.held.proofs.ApartLaw.{dir_of, one_dir, same_dir, other_dir}
-use Rattle.held.proofs.FlatLaw.{Fun, plus, delta, delta_like}
+use Rattle.held.proofs.FlatLaw.{plus, delta, delta_like}
 use Rattle.held.proofs.ConstantLaw.{nowhere, deltas, held_entry, entry_is}
 use Rattle.held.proofs.RiseLaw.{positions_rise}
 use Rattle.held.proofs.PointLaw.{all_of, point_is}
 use Rattle.held.proofs.ValuesLaw.{latest_all, latest_one}
-use Rattle.polynomials.specs.Poly.{Poly, value_of, eval, slope, diff, prev, table_of}
+use Rattle.polynomials.specs.Poly.{Poly, value_of, slope, diff, prev, table_of}
 use Rattle.polynomials.proofs.PolyLaw.{Next, diff_is, diff_moves, slope_self, slope_above, slope_prev}
 use Rattle.polynomials.proofs.TableLaw.{table_lin, table_same, table_other}
 use Rattle.polynomials.proofs.FormLaw.{eval_value}

@@ -1,6 +1,6 @@
 -- Document 01's cases by hand that are about positions: each is computed.
 use mathlib.Core.Path.{◌≡◌, refl}
-use mathlib.Core.List.{List, [], ◌∷◌}
+use mathlib.Core.List.{[], ◌∷◌}
 use Rattle.positions.specs.Positions.{lowest_in, lowest_of, positions_in, positions}
 
 -- the rows of this crate: positions of 5, of 2 and of 0

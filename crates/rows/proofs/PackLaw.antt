@@ -1,8 +1,8 @@
 -- Packing: after e rows a table holds the words of the first e equations; one row more sets one trit of every entry.
-use mathlib.Core.Path.{◌≡◌, refl, sym, ap, ap₂, ◌∙◌}
+use mathlib.Core.Path.{◌≡◌, refl, sym, ap, ◌∙◌}
 use mathlib.Core.List.{List}
 use mathlib.Core.Logic.{by_cases}
-use Prim.Native.Nat.{ℕ, zero, suc, ◌+◌, ◌-◌, ◌*◌, ◌%◌, ◌^◌, ◌≤◌, ◌<◌}
+use Prim.Native.Nat.{ℕ, ◌+◌, ◌-◌, ◌*◌, ◌%◌, ◌^◌, ◌≤◌, ◌<◌}
 use native.Mathlib.Nat.{mul-le-mul_right}
 use native.Mathlib.Numerals.{add-one}
 use native.Mathlib.Decide.{ℕ_discrete}
@@ -15,7 +15,7 @@ use Rattle.trits.specs.declared.Vector.{Vector}
 use Rattle.trits.specs.Trit.{of_trits, from_bits, none}
 use Rattle.trits.specs.Words.{Put}
 use Rattle.trits.proofs.PutLaw.{put_next}
-use Rattle.tables.specs.Words.{entry, tabled, put_at, Written, packed_rows}
+use Rattle.tables.specs.Words.{entry, put_at, Written, packed_rows}
 use Rattle.rows.specs.Parts.{RowPacked}
 use Rattle.tables.proofs.WordLaw.{entry_tabled, length_tabled}
 use Rattle.tables.proofs.WriteLaw.{length_put, entry_put, entry_other, entries_ext, written_all}

@@ -1,16 +1,12 @@
 -- With one unknown a table is the same in both degrees: its system is, and its records are where the second slot (0, 0) is zero.
 use mathlib.Core.Path.{◌≡◌, refl, sym, ap, ◌∙◌}
-use mathlib.Core.Bool.{Bool}
-use mathlib.Core.Logic.{by_cases}
 use mathlib.Core.List.{List, [], ◌∷◌}
-use Prim.Native.Nat.{ℕ, zero, suc, ◌+◌, ◌-◌, ◌*◌, ◌≤◌, ◌<◌}
-use native.Mathlib.Decide.{ℕ_discrete}
+use Prim.Native.Nat.{ℕ, zero, suc, ◌+◌, ◌-◌, ◌*◌, ◌≤◌}
 use native.Mathlib.Omega.{arith}
 use lib.Dec.{ltb}
 use lib.ListN.{length, take}
 use Rattle.refusals.specs.Choice.{pick}
 use Rattle.residues.specs.Sums.{sum, same}
-use Rattle.trits.specs.declared.Vector.{Vector}
 use Rattle.trits.specs.Trit.{of_trits, none}
 use Rattle.positions.specs.Positions.{positions, latest}
 use Rattle.gray.specs.Numbers.{point_digit}
@@ -20,10 +16,9 @@ use Rattle.cubics.specs.Cubic.{Cubic, low_of, cubes_of, cubic_of}
 use Rattle.cubics.specs.Whole.{cubes_from, cubes_back, low_table, back_cubic}
 use Rattle.tables.specs.Words.{poly_at}
 use Rattle.cubic_tables.specs.Words.{cubic_at}
-use Rattle.given.specs.Given.{Given, quadratic, cubic, behind, cubic_behind, values_of}
+use Rattle.given.specs.Given.{quadratic, cubic, behind, cubic_behind, values_of}
 use Rattle.given.specs.Slots.{value_at, slot_at, slots_at, second_at, seconds_at}
 use Rattle.given.proofs.SlotLaw.{slots_length, slots_at_lem, slots_are, second_none, second_two, seconds_long, seconds_at_lem, seconds_are}
-use Rattle.opening.specs.declared.Record.{Record}
 use Rattle.opening.specs.Opened.{opened_at}
 
 -- there is no term of degree 3

@@ -1,9 +1,8 @@
 -- The verdict of a call: what 1 and 2 refuse is refused, and what they pass is the search's verdict.
-use mathlib.Core.Path.{◌≡◌, refl, sym, ap, ap₂, ◌∙◌}
+use mathlib.Core.Path.{◌≡◌, refl, sym, ap, ◌∙◌}
 use mathlib.Core.Bool.{not, false}
 use mathlib.Core.List.{List}
-use Prim.Native.Nat.{ℕ, ◌+◌, ◌*◌, ◌%◌, ◌^◌}
-use native.Mathlib.Omega.{arith}
+use Prim.Native.Nat.{ℕ, ◌%◌, ◌^◌}
 use lib.Dec.{eqb, ltb}
 use lib.ListN.{length}
 use borrow.Author.Tests.{eqb-true, eq-eqb, ne_eqb, not-false}
@@ -20,7 +19,7 @@ use Rattle.outcomes.specs.declared.Outcome.{Outcome}
 use Rattle.outcomes.specs.Search.{search_verdict, answer_values}
 use Rattle.lists.specs.Listed.{found_in, list_in}
 use Rattle.wire.specs.Wire.{record_in, record_words}
-use Rattle.search_calls.specs.Call.{bytes_told, shaped, reading_by, in_words, call_verdict, done_of, record_bytes_after, list_bytes_after, answer_bytes_after}
+use Rattle.search_calls.specs.Call.{bytes_told, shaped, in_words, call_verdict, done_of, record_bytes_after, list_bytes_after, answer_bytes_after}
 use Rattle.search_calls.specs.Parts.{Writes}
 
 module _ (n m a b c d : ℕ) where

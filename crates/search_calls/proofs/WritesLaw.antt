@@ -2,20 +2,16 @@
 use mathlib.Core.Path.{◌≡◌, refl, sym, ap, ap₂, subst, ◌∙◌}
 use mathlib.Core.List.{List, [], ◌∷◌}
 use Prim.Native.Nat.{ℕ, ◌^◌}
-use native.Mathlib.Omega.{arith}
 use lib.ListN.{length, get_or, take}
-use lib.Seq.{take_all}
 use Rattle.refusals.specs.declared.Refusal.{Refusal}
 use Rattle.refusals.specs.declared.Verdict.{Verdict}
 use Rattle.refusals.specs.declared.Verdict.TheVariants as verdict
 use Rattle.refusals.specs.Refusal.{code_of, after}
 use Rattle.walks.specs.Calls.{report_of}
-use Rattle.codec.specs.Codec.{words_in, words_of, bytes_from, pasted}
+use Rattle.codec.specs.Codec.{words_in, bytes_from, pasted}
 use Rattle.codec.proofs.CodecLaw.{length_words}
 use Rattle.given.specs.declared.Degree.{Degree}
-use Rattle.given.specs.declared.Degree.TheVariants.{Two, Three}
 use Rattle.given.specs.Given.{Given, table_with}
-use Rattle.opening.specs.declared.First.{First}
 use Rattle.opening.specs.declared.Record.{Record}
 use Rattle.opening.specs.First.{lent_words, seconds_from, whole_of}
 use Rattle.outcomes.specs.declared.Answer.{Answer}

@@ -27,7 +27,7 @@ use Rattle.cubics.proofs.OneSystemLaw.{table_quad, table_two, table_all}
 use Rattle.cubic_tables.specs.Order.{cubic_count, triple_index, key_of, pair_of}
 use Rattle.cubic_tables.specs.Words.{CubicTable, cubic_at}
 use Rattle.cubic_tables.proofs.OrderLaw.{triple_lt}
-use Rattle.cubic_tables.proofs.PairLaw.{pair_row, triple_key}
+use Rattle.cubic_tables.proofs.PairLaw.{triple_key}
 use Rattle.cubic_tables.proofs.HoldsLaw.{quad_holds, cube_holds}
 use Rattle.seconds.specs.Parts.{counted_to}
 

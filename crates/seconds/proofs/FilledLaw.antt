@@ -1,5 +1,5 @@
 -- Second slots filled in the order of the pairs.
-use mathlib.Core.Path.{◌≡◌, refl, sym, ap, ap₂, ◌∙◌}
+use mathlib.Core.Path.{◌≡◌, refl, ap₂, ◌∙◌}
 use mathlib.Core.Logic.{by_cases}
 use mathlib.Core.List.{List, [], ◌∷◌}
 use Prim.Native.Nat.{ℕ, zero, suc, ◌+◌, ◌*◌, ◌≤◌, ◌<◌}
@@ -7,7 +7,7 @@ use native.Mathlib.Decide.{ℕ_discrete}
 use native.Mathlib.Omega.{arith}
 use lib.ListN.{length, get_or, replicate}
 use Rattle.trits.specs.declared.Vector.{Vector}
-use Rattle.trits.specs.Trit.{Holds, none}
+use Rattle.trits.specs.Trit.{Holds}
 use Rattle.tables.specs.Words.{entry, put_at}
 use Rattle.tables.proofs.WriteLaw.{length_put, entry_put, entry_other}
 use Rattle.held.specs.Held.{held, along}

@@ -1,12 +1,12 @@
 -- What the entries of a table of differences are: document 01's formulas, and changes of the system from place to place.
-use mathlib.Core.Path.{◌≡◌, refl, sym, ap, ap₂, ◌∙◌}
+use mathlib.Core.Path.{◌≡◌, sym, ap, ◌∙◌}
 use mathlib.Core.List.{List}
 use mathlib.Core.Logic.{by_cases}
-use Prim.Native.Nat.{ℕ, zero, suc, ◌+◌, ◌-◌, ◌*◌, ◌%◌, ◌^◌, ◌≤◌, ◌<◌}
+use Prim.Native.Nat.{ℕ, suc, ◌+◌, ◌-◌, ◌*◌, ◌%◌, ◌^◌, ◌≤◌, ◌<◌}
 use native.Mathlib.Nat.{mod-lt, one-le-pow, mod-eq_of_lt, mod-mod, mod-add-mod}
 use native.Mathlib.Decide.{ℕ_discrete}
 use native.Mathlib.Omega.{arith}
-use Rattle.residues.proofs.ModLaw.{Cong, cof, ◌⨾◌, cdrop, csmall, cadd, crefl}
+use Rattle.residues.proofs.ModLaw.{csmall}
 use Rattle.trits.specs.Trit.{trit}
 use Rattle.positions.specs.Positions.{lowest_of, latest}
 use Rattle.gray.specs.Numbers.{point_digit}
@@ -16,7 +16,7 @@ use Rattle.polynomials.specs.Poly.{Poly, prev, change_of, diff, table_of}
 use Rattle.polynomials.proofs.TableLaw.{same_is, other_is, table_lin}
 use Rattle.polynomials.proofs.FormLaw.{three_same, three_other, diff_change}
 use Rattle.polynomials.proofs.QuadLaw.{first_lin, slot_step}
-use Rattle.tables.specs.Monomials.{count_of, index_of}
+use Rattle.tables.specs.Monomials.{index_of}
 use Rattle.tables.specs.Words.{entry, poly_at, differences_of}
 use Rattle.tables.specs.Differences.{Formulas}
 use Rattle.trits.proofs.LegalLaw.{trit_lt}

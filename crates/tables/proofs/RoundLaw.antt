@@ -1,21 +1,21 @@
 -- Coefficients and differences give back each other: the words of a system are read back modulo 3, and the formulas need no more.
-use mathlib.Core.Path.{◌≡◌, refl, sym, ap, ◌∙◌}
+use mathlib.Core.Path.{◌≡◌, sym, ap, ◌∙◌}
 use mathlib.Core.List.{List}
-use Prim.Native.Nat.{ℕ, zero, suc, ◌+◌, ◌-◌, ◌*◌, ◌%◌, ◌≤◌, ◌<◌}
+use Prim.Native.Nat.{ℕ, ◌+◌, ◌*◌, ◌<◌}
 use native.Mathlib.Nat.{mod-lt, mod-eq_of_lt}
 use native.Mathlib.Omega.{arith}
 use lib.IntN.{ℤ, pos, negsuc}
-use lib.ListN.{length, get_or}
+use lib.ListN.{get_or}
 use Rattle.residues.specs.Residue.{floor_mod}
-use Rattle.residues.proofs.ModLaw.{Cong, crefl, cof, csym, ◌⨾◌, cdrop}
+use Rattle.residues.proofs.ModLaw.{cof, ◌⨾◌, cdrop}
 use Rattle.trits.specs.Trit.{trit, of_trits}
 use Rattle.trits.specs.declared.Vector.{Vector}
 use Rattle.trits.proofs.ExtLaw.{trit_of}
 use Rattle.polynomials.specs.Poly.{Poly, table_of, back_of}
 use Rattle.polynomials.proofs.FormLaw.{half_three}
 use Rattle.tables.specs.Monomials.{count_of, nth}
-use Rattle.tables.specs.Words.{entry, tabled, Table, poly_at, words_of, packed, differences_of, coefficients_of}
-use Rattle.tables.proofs.AgreeLaw.{Agree, agree_sym, agree_trans, agree_nth, table_agree, back_agree, back_of_table, table_of_back}
+use Rattle.tables.specs.Words.{Table, poly_at, words_of, packed, differences_of, coefficients_of}
+use Rattle.tables.proofs.AgreeLaw.{Agree, agree_trans, agree_nth, table_agree, back_agree, back_of_table, table_of_back}
 use Rattle.tables.proofs.WordLaw.{entry_tabled, const_words, lin_words, quad_words, nth_poly, words_table, table_of_lem, is_words, words_ext}
 
 two : 1 < 3

@@ -1,15 +1,15 @@
 -- Writing entries: a put entry and the others, and runs of entries.
-use mathlib.Core.Path.{◌≡◌, refl, sym, ap, ap₂, ◌∙◌}
+use mathlib.Core.Path.{◌≡◌, refl, sym, ap, ◌∙◌}
 use mathlib.Core.List.{List}
 use mathlib.Core.Logic.{by_cases}
-use Prim.Native.Nat.{ℕ, zero, suc, ◌+◌, ◌-◌, ◌*◌, ◌≤◌, ◌<◌}
-use native.Mathlib.Decide.{ℕ_discrete, dec_lt}
+use Prim.Native.Nat.{ℕ, suc, ◌+◌, ◌-◌, ◌*◌, ◌≤◌, ◌<◌}
+use native.Mathlib.Decide.{ℕ_discrete}
 use native.Mathlib.Omega.{arith}
 use lib.ListN.{length, get_or, set, length-set}
 use lib.Seq.{get_or-set_same, get_or-set_other}
 use Rattle.trits.specs.declared.Vector.{Vector}
-use Rattle.tables.specs.Monomials.{count_of, row_start, index_of}
-use Rattle.tables.specs.Words.{entry, tabled, put_at, Written}
+use Rattle.tables.specs.Monomials.{row_start, index_of}
+use Rattle.tables.specs.Words.{entry, put_at, Written}
 use Rattle.tables.proofs.WordLaw.{is_tabled}
 
 pub length_put : (t : List ℕ) (k : ℕ) (v : Vector) → length (put_at t k v) ≡ length t

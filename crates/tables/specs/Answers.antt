@@ -1,6 +1,6 @@
 -- What each operation on tables answers, and what it leaves in the table that it was lent. Refusals in document 01's order.
 use Rattle.std.specs.Prelude.{◌≡◌, not, List, [], ◌∷◌, ℕ, ◌*◌, ◌^◌, ◌<◌, eqb, ltb, leb, ℤ, length}
-use Rattle.refusals.specs.declared.Refusal.TheVariants.{Size, Length, Pair, Range}
+use Rattle.refusals.specs.declared.Refusal.TheVariants.{Length, Pair, Range}
 use Rattle.refusals.specs.declared.Verdict.{Verdict}
 use Rattle.refusals.specs.declared.Verdict.TheVariants.{Done, Refused}
 use Rattle.refusals.specs.Limits.{Within}

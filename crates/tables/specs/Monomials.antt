@@ -1,5 +1,5 @@
 -- The order of the monomials: the constant; x0 to x(n-1); then for each i the products xi·xj for j from i to n-1.
-use Rattle.std.specs.Prelude.{Bool, true, false, ℕ, zero, suc, ◌+◌, ◌-◌, ◌*◌, ◌/◌, ltb}
+use Rattle.std.specs.Prelude.{true, false, ℕ, zero, suc, ◌+◌, ◌-◌, ◌*◌, ◌/◌, ltb}
 use Rattle.polynomials.specs.Poly.{Poly}
 
 -- how many there are

@@ -1,7 +1,7 @@
 -- Vectors that hold given trits: sums, negations and multiples of them, as the operations promise them.
 use mathlib.Core.Path.{◌≡◌, sym, ap, ap₂, ◌∙◌}
 use Prim.Native.Nat.{ℕ, ◌+◌, ◌*◌, ◌%◌, ◌<◌}
-use native.Mathlib.Nat.{add-mod, mod-mod}
+use native.Mathlib.Nat.{add-mod}
 use Rattle.residues.proofs.ModLaw.{crefl, cof, ◌⨾◌, cdrop, cmul, mod_mul}
 use Rattle.trits.specs.declared.Vector.{Vector}
 use Rattle.trits.specs.Trit.{trit, Holds, of_trits}

@@ -10,7 +10,7 @@ use Rattle.trits.specs.Trit.{trit, Legal, Holds, of_trits, none}
 use Rattle.trits.specs.Words.{add_of, negate_of, product_of, times_of}
 use Rattle.trits.proofs.LegalLaw.{trit_lt, trit_none, legal_none}
 use Rattle.trits.proofs.SumLaw.{meets, negated, multiplied, scaled}
-use Rattle.trits.proofs.ExtLaw.{trit_ext, trit_past, is_of}
+use Rattle.trits.proofs.ExtLaw.{trit_ext, trit_past}
 use Rattle.trits.proofs.HoldLaw.{holds_is}
 
 -- vectors of the same trits are equal

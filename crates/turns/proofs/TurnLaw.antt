@@ -1,7 +1,7 @@
 -- The two directions between coefficients and differences write the same formulas; both tables meet them.
 use mathlib.Core.Path.{◌≡◌, refl, sym, ap, ap₂, ◌∙◌}
 use mathlib.Core.List.{List}
-use Prim.Native.Nat.{ℕ, zero, suc, ◌+◌, ◌-◌, ◌*◌, ◌%◌, ◌≤◌, ◌<◌}
+use Prim.Native.Nat.{ℕ, zero, suc, ◌+◌, ◌-◌, ◌*◌, ◌<◌}
 use native.Mathlib.Omega.{arith}
 use lib.ListN.{length}
 use Rattle.residues.proofs.ModLaw.{Cong, crefl, cof, csym, ◌⨾◌, cdrop, cadd, cmul, cwhole}
@@ -9,7 +9,7 @@ use Rattle.trits.specs.declared.Vector.{Vector}
 use Rattle.trits.specs.Trit.{trit, Legal, of_trits, none}
 use Rattle.trits.specs.Words.{Added, Negated}
 use Rattle.trits.proofs.LegalLaw.{bit_zero}
-use Rattle.trits.proofs.ExtLaw.{trit_of, of_ext}
+use Rattle.trits.proofs.ExtLaw.{of_ext}
 use Rattle.polynomials.specs.Poly.{Poly, prev, table_of, prev_of, back_of}
 use Rattle.polynomials.proofs.TableLaw.{same_is, other_is, back_same, back_other}
 use Rattle.polynomials.proofs.FormLaw.{half_three}
@@ -18,10 +18,10 @@ use Rattle.tables.specs.Words.{entry, put_at, Written, Table, poly_at, words_of,
 use Rattle.turns.specs.Parts.{Filled, Products, Turned, before_of}
 use Rattle.tables.proofs.IndexLaw.{index_lt, count_is}
 use Rattle.tables.proofs.MonomialLaw.{nth_const, nth_lin, nth_quad}
-use Rattle.tables.proofs.WordLaw.{entry_words, words_table}
+use Rattle.tables.proofs.WordLaw.{entry_words}
 use Rattle.tables.proofs.RoundLaw.{coefficients_hold}
 use Rattle.tables.proofs.VectorLaw.{of_self, of_add, of_negate}
-use Rattle.tables.proofs.WriteLaw.{row_entry, row_first, written_none, written_put, written_first, length_put}
+use Rattle.tables.proofs.WriteLaw.{row_entry, written_none, written_put, written_first, length_put}
 use Rattle.turns.proofs.FillLaw.{filled_next}
 
 -- ---- the later products of one unknown

@@ -1,8 +1,8 @@
 -- A block of q ^ l places is as many steps.
-use mathlib.Core.Path.{◌≡◌, refl, sym, ap, ◌∙◌}
-use mathlib.Core.List.{List, [], ◌∷◌}
-use Prim.Native.Nat.{ℕ, zero, suc, ◌+◌, ◌-◌, ◌*◌, ◌^◌, ◌≤◌, ◌<◌}
-use native.Mathlib.Nat.{mul-one, mul-suc, pow-zero, pow-suc, one-le-pow, mul-le-mul_left}
+use mathlib.Core.Path.{◌≡◌, ap, ◌∙◌}
+use mathlib.Core.List.{List}
+use Prim.Native.Nat.{ℕ, zero, suc, ◌+◌, ◌-◌, ◌*◌, ◌^◌, ◌<◌}
+use native.Mathlib.Nat.{mul-one, mul-suc, pow-zero, pow-suc}
 use native.Mathlib.Omega.{arith}
 use Rattle.positions.specs.Positions.{positions, reps}
 use Rattle.walks.specs.Walk.{Walk, Lawful, step_of, iterate, turns, block}

@@ -1,6 +1,6 @@
 -- Runs of calls on any engine that serves a walk: each answer keeps its promise, and the promises add up, however the run is cut.
 use mathlib.Core.Path.{◌≡◌, refl, sym, ap, ap₂, subst, ◌∙◌}
-use mathlib.Core.Logic.{◌⊎◌, ⊎_elim, by_cases, ◌↔◌}
+use mathlib.Core.Logic.{⊎_elim, by_cases, ◌↔◌}
 use mathlib.Core.Bool.{Bool, true, false, ◌||◌}
 use mathlib.Core.Option.{Option, none, some, none-ne-some, some-injective}
 use mathlib.Core.List.{List, [], ◌∷◌, ◌++◌}

@@ -1,6 +1,6 @@
 -- What a block is, written out: the same law at base 3 and at base 5, and for a move that looks at any number of positions.
 use mathlib.Core.Path.{◌≡◌, refl}
-use mathlib.Core.List.{List, [], ◌∷◌}
+use mathlib.Core.List.{List, ◌∷◌}
 use Prim.Native.Nat.{ℕ}
 use Rattle.positions.specs.Positions.{reps}
 use Rattle.walks.specs.Walk.{Walk, turns, block}

@@ -1,5 +1,5 @@
 -- A walk in places 0, 1, 2, ..: at each it moves by the place's positions, and then notes what it found.
-use Rattle.std.specs.Prelude.{◌≡◌, Bool, true, false, List, [], ◌∷◌, ℕ, zero, suc, ◌-◌}
+use Rattle.std.specs.Prelude.{◌≡◌, Bool, true, false, List, ℕ, zero, suc, ◌-◌}
 use Rattle.positions.specs.Positions.{positions, reps}
 
 pub record Walk (S : Type 0) : Type 0 where

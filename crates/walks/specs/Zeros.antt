@@ -1,5 +1,5 @@
 -- What "each zero once, in order" means: the list of entries is read off the rising list of the places of the zeros.
-use Rattle.std.specs.Prelude.{◌≡◌, Bool, true, List, [], ℕ, zero, suc, ◌+◌, ◌≤◌, ◌<◌, length, get_or}
+use Rattle.std.specs.Prelude.{◌≡◌, true, List, [], ℕ, zero, suc, ◌+◌, ◌≤◌, ◌<◌, length, get_or}
 use Rattle.walks.specs.Calls.{Trail, listed}
 
 -- x is one of the k places from p, and a zero

@@ -1,10 +1,10 @@
 -- The sum over all places of a function of degree below 2 n is 0 modulo 3: the sum over one digit is a second difference.
-use mathlib.Core.Path.{◌≡◌, refl, sym, ap, ap₂, ◌∙◌}
-use Prim.Native.Nat.{ℕ, zero, suc, ◌+◌, ◌-◌, ◌*◌, ◌/◌, ◌%◌, ◌^◌, ◌<◌, ◌≤◌}
-use native.Mathlib.Nat.{add-zero, zero-add, mul-zero, mul-suc, pow-zero, pow-suc}
+use mathlib.Core.Path.{◌≡◌, sym, ap, ap₂, ◌∙◌}
+use Prim.Native.Nat.{ℕ, zero, suc, ◌+◌, ◌*◌, ◌^◌, ◌<◌}
+use native.Mathlib.Nat.{add-zero, zero-add, pow-zero, pow-suc}
 use native.Mathlib.Omega.{arith}
 use Rattle.residues.specs.Sums.{sum, same}
-use Rattle.residues.proofs.ModLaw.{Cong, crefl, cof, csym, ◌⨾◌, cadd, cmul, cancel, cwhole}
+use Rattle.residues.proofs.ModLaw.{Cong, crefl, cof, ◌⨾◌, cadd, cmul, cancel, cwhole}
 use Rattle.residues.proofs.SumLaw.{sum_cong}
 use Rattle.walks.proofs.CostLaw.{sum_rows}
 use Rattle.gray.specs.Numbers.{point_digit}

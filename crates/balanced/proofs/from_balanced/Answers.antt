@@ -3,7 +3,7 @@ use Rattle.balanced.proofs.BalancedLaw.{half_is}
 use Rattle.balanced.proofs.SignLaw.{less_fits, low_test, high_test, sum_fits, sum_cast, sum_number}
 use mathlib.Core.Path.{◌≡◌, refl, ap, ◌∙◌}
 use mathlib.Core.Bool.{true, false}
-use Prim.Native.Nat.{ℕ, ◌+◌, ◌-◌, ◌/◌, ◌^◌, ◌≤◌}
+use Prim.Native.Nat.{ℕ, ◌-◌, ◌/◌, ◌^◌, ◌≤◌}
 use native.Mathlib.Omega.{arith}
 use lib.IntN.{ℤ, pos, ◌+ℤ◌, ◌-ℤ◌, +ℤ_idr}
 use Rattle.refusals.specs.declared.Refusal.TheVariants.{Size, Range}

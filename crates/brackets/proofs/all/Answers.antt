@@ -1,5 +1,4 @@
 -- `brackets::all` meets its contract.
-use Prim.Native.Nat.{◌-◌}
 use Rattle.brackets.proofs.BracketLaw.{all_other, all_same}
 use Rattle.brackets.proofs.all.Goals as goal
 

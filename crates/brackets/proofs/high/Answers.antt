@@ -1,5 +1,5 @@
 -- `brackets::high` meets its contract.
-use Prim.Native.Nat.{◌+◌, ◌-◌}
+use Prim.Native.Nat.{◌+◌}
 use native.Mathlib.Omega.{arith}
 use Rattle.cubic_tables.specs.Order.{triple_index}
 use Rattle.brackets.proofs.BracketLaw.{row_less, start_le, known_le, high_holds}

@@ -1,6 +1,5 @@
 -- `checks::legal_front` meets its contract. The invariant: every entry before k is legal.
 use mathlib.Core.Path.{◌≡◌, sym, ◌∙◌}
-use Prim.Native.Nat.{◌-◌}
 use native.Mathlib.Omega.{arith}
 use borrow.Author.Count.{below_more}
 use borrow.Author.Tests.{not-true, not-false}

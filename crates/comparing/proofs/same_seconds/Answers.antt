@@ -1,6 +1,5 @@
 -- `comparing::same_seconds` meets its contract: no word so far differs, and what is left to compare decides.
 use mathlib.Core.Path.{refl}
-use Prim.Native.Nat.{◌-◌}
 use native.Mathlib.Omega.{arith}
 use borrow.Author.Rules.{rules}
 use Rattle.outcomes.proofs.RecordLaw.{differ_go, differ_end}

@@ -1,6 +1,6 @@
 -- `cubic_cells::coefficient` meets its contract.
 use mathlib.Core.Path.{◌≡◌}
-use Prim.Native.Nat.{◌+◌, ◌-◌, ◌<◌}
+use Prim.Native.Nat.{◌+◌, ◌<◌}
 use native.Mathlib.Omega.{arith}
 use Rattle.cubic_tables.specs.Order.{triple_index}
 use Rattle.brackets.proofs.BracketLaw.{row_less, start_le, place_le, known_le, holds_whole, coefficient_two, coefficient_same, coefficient_other}

@@ -1,5 +1,4 @@
 -- `cubic_cells::difference` meets its contract.
-use Prim.Native.Nat.{◌-◌}
 use Rattle.brackets.proofs.BracketLaw.{known_self, difference_two, difference_same, difference_other}
 use Rattle.cubic_cells.proofs.difference.Goals as goal
 

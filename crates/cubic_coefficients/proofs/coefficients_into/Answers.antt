@@ -1,6 +1,6 @@
 -- `cubic_coefficients::coefficients_into` meets its contract.
 use mathlib.Core.Path.{sym, ap, ◌∙◌}
-use Prim.Native.Nat.{ℕ, ◌-◌, ◌*◌, ◌≤◌}
+use Prim.Native.Nat.{ℕ, ◌*◌, ◌≤◌}
 use native.Mathlib.Omega.{arith}
 use lib.Seq.{length-take-le}
 use Rattle.cubic_coefficients.proofs.coefficients_into.Goals as goal

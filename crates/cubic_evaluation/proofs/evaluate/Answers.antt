@@ -3,7 +3,6 @@ use mathlib.Core.Path.{sym, ap, ◌∙◌}
 use native.Mathlib.Omega.{arith}
 use lib.ListN.{get_or}
 use Rattle.refusals.specs.declared.Verdict.TheVariants.{Done}
-use Rattle.gray.specs.Numbers.{digit}
 use Rattle.tables.specs.declared.Evaluated.TheVariants.{Value}
 use Rattle.cubic_tables.specs.Order.{cubic_count}
 use Rattle.cubic_tables.specs.Words.{cubic_values}

@@ -1,9 +1,8 @@
 -- `cubic_evaluation::value_of` meets its contract. The invariant: the planes of the listed unknowns before number s are summed.
 use mathlib.Core.Path.{◌≡◌, ap, ◌∙◌}
-use Prim.Native.Nat.{ℕ, ◌-◌}
+use Prim.Native.Nat.{ℕ}
 use native.Mathlib.Omega.{arith}
 use lib.ListN.{get_or}
-use Rattle.residues.specs.Sums.{sum}
 use Rattle.tables.proofs.IndexLaw.{count_is}
 use Rattle.listed.proofs.ListLaw.{first_begun, row_begun, row_more}
 use Rattle.cubic_tables.specs.Words.{cubic_at}

@@ -1,6 +1,6 @@
 -- `cubic_extras::extra_pair` meets its contract.
 use mathlib.Core.Path.{◌≡◌}
-use Prim.Native.Nat.{◌+◌, ◌-◌, ◌<◌}
+use Prim.Native.Nat.{◌+◌, ◌<◌}
 use native.Mathlib.Omega.{arith}
 use Rattle.cubic_tables.specs.Order.{cubic_count, triple_index}
 use Rattle.cubic_tables.proofs.OrderLaw.{triple_lt}

@@ -1,7 +1,7 @@
 -- `cubic_slots::slots_at` meets its contract. The loop's invariant: the slots below b are filled, and power is 3 to the b. The measure is what is left of
 -- the unknowns.
 use mathlib.Core.Path.{ap, ◌∙◌}
-use Prim.Native.Nat.{ℕ, ◌-◌, ◌*◌}
+use Prim.Native.Nat.{ℕ, ◌*◌}
 use native.Mathlib.Omega.{arith}
 use Rattle.seconds.proofs.CountedLaw.{power_next, power_small}
 use Rattle.cubic_slots.proofs.SlotLaw.{filled_none, filled_next, filled_whole}

@@ -1,5 +1,5 @@
 -- `cubic_turns::cell` meets its contract.
-use Prim.Native.Nat.{◌-◌, ◌<◌}
+use Prim.Native.Nat.{◌<◌}
 use native.Mathlib.Omega.{arith}
 use Rattle.cubic_tables.specs.Order.{triple_index}
 use Rattle.cubic_turns.proofs.LoopLaw.{known_written, cell_put, cell_skip}

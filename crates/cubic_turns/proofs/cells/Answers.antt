@@ -1,6 +1,5 @@
 -- `cubic_turns::cells` meets its contract.
 use mathlib.Core.Path.{sym, ◌∙◌}
-use Prim.Native.Nat.{◌-◌}
 use native.Mathlib.Omega.{arith}
 use Rattle.cubic_turns.proofs.LoopLaw.{to_end}
 use Rattle.cubic_turns.proofs.cells.Goals as goal

@@ -1,6 +1,5 @@
 -- `cubic_turns::planes` meets its contract.
 use mathlib.Core.Path.{sym, ◌∙◌}
-use Prim.Native.Nat.{◌-◌}
 use native.Mathlib.Omega.{arith}
 use Rattle.cubic_turns.proofs.LoopLaw.{row_over, row_end}
 use Rattle.cubic_turns.proofs.planes.Goals as goal

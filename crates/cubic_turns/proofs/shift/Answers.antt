@@ -1,8 +1,6 @@
 -- `cubic_turns::shift` meets its contract.
 use mathlib.Core.Path.{refl, sym, ◌∙◌}
-use Prim.Native.Nat.{◌-◌}
 use native.Mathlib.Omega.{arith}
-use Rattle.tables.specs.Words.{entry}
 use Rattle.tables.proofs.IndexLaw.{count_is}
 use Rattle.cubic_turns.proofs.LoopLaw.{pair_over, pair_first, first_put, pair_last}
 use Rattle.cubic_turns.proofs.shift.Goals as goal

@@ -1,7 +1,7 @@
 -- `cubic_turns::signed` meets its contract.
 use mathlib.Core.Path.{ap, ◌∙◌}
 use mathlib.Core.Bool.{Bool}
-use Prim.Native.Nat.{◌-◌, ◌*◌}
+use Prim.Native.Nat.{◌*◌}
 use Rattle.trits.proofs.HoldLaw.{holds_negate}
 use Rattle.cubic_turns.specs.Parts.{sign_of}
 use Rattle.brackets.proofs.BracketLaw.{holds_eq}

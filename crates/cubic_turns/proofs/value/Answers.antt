@@ -1,6 +1,5 @@
 -- `cubic_turns::value` meets its contract.
 use mathlib.Core.Path.{sym, ◌∙◌}
-use Prim.Native.Nat.{◌-◌}
 use Rattle.trits.proofs.HoldLaw.{holds_is}
 use Rattle.cubic_turns.proofs.value.Goals as goal
 

@@ -1,6 +1,6 @@
 -- `cubic_value::part` meets its contract.
 use mathlib.Core.Path.{ap}
-use Prim.Native.Nat.{ℕ, ◌+◌, ◌-◌, ◌*◌, ◌/◌}
+use Prim.Native.Nat.{ℕ, ◌+◌, ◌*◌, ◌/◌}
 use native.Mathlib.Omega.{arith}
 use Rattle.residues.proofs.ModLaw.{cof, ◌⨾◌}
 use Rattle.tables.proofs.IndexLaw.{count_is}

@@ -1,7 +1,7 @@
 -- `cubic_value::value_after` meets its contract. The loop's invariant: all entries that begin with an unknown below b are added, y is what is left of the
 -- place over 3 to the b, and the listed unknowns from `from` on are those past b. The measure is what is left of the unknowns.
 use mathlib.Core.Path.{◌≡◌, sym, ap, ◌∙◌, subst}
-use Prim.Native.Nat.{ℕ, ◌+◌, ◌-◌, ◌/◌}
+use Prim.Native.Nat.{ℕ, ◌+◌, ◌/◌}
 use native.Mathlib.Nat.{pow-zero, div-one}
 use native.Mathlib.Omega.{arith}
 use Rattle.trits.specs.Trit.{Holds}

@@ -1,6 +1,5 @@
 -- `differences::differences_into` meets its contract. The invariant: the unknowns before i are done.
-use mathlib.Core.Path.{◌≡◌, sym, ap, ◌∙◌}
-use Prim.Native.Nat.{◌-◌}
+use mathlib.Core.Path.{◌≡◌, sym, ◌∙◌}
 use native.Mathlib.Omega.{arith}
 use Rattle.tables.specs.Words.{differences_of}
 use Rattle.tables.proofs.IndexLaw.{count_is}

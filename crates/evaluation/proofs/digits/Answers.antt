@@ -1,9 +1,8 @@
 -- `evaluation::digits` meets its contract. The invariant: the digits before k are written, and `rest` is what is left of x.
 use mathlib.Core.Path.{refl, ap, ◌∙◌}
-use Prim.Native.Nat.{ℕ, ◌-◌, ◌/◌, ◌%◌}
+use Prim.Native.Nat.{ℕ, ◌/◌, ◌%◌}
 use native.Mathlib.Omega.{arith}
 use lib.ListN.{length, length-set}
-use Rattle.gray.specs.Numbers.{digit}
 use Rattle.evaluation.proofs.EvaluateLaw.{part_none, part_next, digits_next}
 use Rattle.evaluation.proofs.digits.Goals as goal
 

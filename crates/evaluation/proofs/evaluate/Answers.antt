@@ -3,7 +3,6 @@ use mathlib.Core.Path.{sym, ap, ◌∙◌}
 use native.Mathlib.Omega.{arith}
 use lib.ListN.{get_or}
 use Rattle.refusals.specs.declared.Verdict.TheVariants.{Done}
-use Rattle.gray.specs.Numbers.{digit}
 use Rattle.tables.specs.declared.Evaluated.TheVariants.{Value}
 use Rattle.tables.specs.Monomials.{count_of}
 use Rattle.tables.specs.Words.{values_at}

@@ -1,6 +1,5 @@
 -- `listed::nonzero_into` meets its contract. The invariant: the unknowns before k are listed.
 use mathlib.Core.Path.{◌≡◌, refl, ◌∙◌}
-use Prim.Native.Nat.{◌-◌}
 use native.Mathlib.Nat.{mod-lt}
 use native.Mathlib.Omega.{arith}
 use lib.ListN.{length, get_or, length-set}

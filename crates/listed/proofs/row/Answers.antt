@@ -1,6 +1,6 @@
 -- `listed::row` meets its contract. The invariant: what belongs to the listed unknowns before number t is summed.
 use mathlib.Core.Path.{◌≡◌, ap, ◌∙◌}
-use Prim.Native.Nat.{ℕ, ◌-◌}
+use Prim.Native.Nat.{ℕ}
 use native.Mathlib.Omega.{arith}
 use lib.ListN.{get_or}
 use Rattle.listed.proofs.ListLaw.{listed_rise, row_begun, row_more}

@@ -9,4 +9,4 @@ returns c =
     let d = c.differences in
     let p = c.put_head-used in
     started a.n a.m a.words.now a.table.now c.requires.0 d.new.table (table_is a.n a.m a.words.now a.table.now c.requires.0 _ d.ensures.left)
-    c.«open».result p.new.text p.result c.«open».ensures.0 (omega (arith, p.ensures.1, p.ensures.0.size, c.requires.1)) p.ensures.0.front
+    c.open-o.result p.new.text p.result c.open-o.ensures.value (omega (arith, p.ensures.1, p.ensures.0.size, c.requires.1)) p.ensures.0.front

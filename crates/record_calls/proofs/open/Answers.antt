@@ -26,7 +26,7 @@ returns-then-number-ne0 c =
     let l = a.«record».now in
     let h = room_done a.n a.m (length l) 465 (passed _ _ c.room_for-v.ensures _ c.code-refused.ensures c.if-refused-ne0.false) in
     let u = open_verdict (table_told a.n a.m a.table.now) a.place in
-    let o = c.«open».ensures.0 ∙ ap (λ (d : Degree). open_of (table_with d a.n a.m a.table.now) a.place) c.degree_of-degree.ensures in
+    let o = c.open-o.ensures.value ∙ ap (λ (d : Degree). open_of (table_with d a.n a.m a.table.now) a.place) c.degree_of-degree.ensures in
     let e = c.code-number.ensures ∙ ap (λ (z : Opened). code_of z.verdict) o in
     let new = record_words (opened_at (table_told a.n a.m a.table.now) a.place) in
     moved (room a.n a.m (length l) 465 u) u (h.1 u) _ _ l new (e, kept_refused u (λ z. c.if-number-ne0.true (e ∙ z)) l new)
@@ -43,7 +43,7 @@ returns c =
     let h = room_done a.n a.m (length l) 465 (passed _ _ c.room_for-v.ensures _ c.code-refused.ensures c.if-refused-ne0.false) in
     let u = open_verdict (table_told a.n a.m a.table.now) a.place in
     let x = opened_at (table_told a.n a.m a.table.now) a.place in
-    let o = c.«open».ensures.0
+    let o = c.open-o.ensures.value
     ∙ ap (λ (d : Degree). open_of (table_with d a.n a.m a.table.now) a.place) c.degree_of-degree.ensures in
     let e = c.code-number.ensures ∙ ap (λ (z : Opened). code_of z.verdict) o in
     let d : u ≡ Done = code_zero u (sym e ∙ c.if-number-ne0.false) in

@@ -1,9 +1,7 @@
 -- `rows::clear` meets its contract. The invariant: the entries before k are written.
 use mathlib.Core.Path.{◌≡◌, refl, sym, ◌∙◌}
-use Prim.Native.Nat.{◌-◌}
 use native.Mathlib.Omega.{arith}
 use Rattle.trits.specs.Trit.{none}
-use Rattle.tables.specs.Words.{entry}
 use Rattle.tables.proofs.WriteLaw.{written_none, written_put}
 use Rattle.rows.proofs.clear.Goals as goal
 

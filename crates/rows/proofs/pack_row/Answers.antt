@@ -1,6 +1,5 @@
 -- `rows::pack_row` meets its contract. The invariant: the first k entries have their trit e.
 use mathlib.Core.Path.{◌≡◌, ap, ◌∙◌}
-use Prim.Native.Nat.{◌-◌}
 use native.Mathlib.Omega.{arith}
 use lib.IntN.{pos}
 use mir.Syntax.{w8}

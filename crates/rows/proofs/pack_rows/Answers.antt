@@ -1,8 +1,7 @@
 -- `rows::pack_rows` meets its contract. The invariant: the table holds the first e equations.
 use mathlib.Core.Path.{◌≡◌, sym, ap, ◌∙◌}
-use Prim.Native.Nat.{ℕ, ◌+◌, ◌-◌, ◌*◌, ◌≤◌}
+use Prim.Native.Nat.{ℕ, ◌+◌, ◌*◌, ◌≤◌}
 use native.Mathlib.Omega.{arith}
-use lib.ListN.{length}
 use Rattle.tables.specs.Words.{packed_rows}
 use Rattle.rows.proofs.PackLaw.{packed_none, packed_part, part_length, row_within, row_small}
 use Rattle.rows.proofs.pack_rows.Goals as goal

@@ -1,7 +1,7 @@
 -- `seconds::second` meets its contract. The loop's invariant: the entries of b, c and the unknowns below d are counted, and y is what is left of the
 -- place over 3 to the d. The measure is what is left of the unknowns.
 use mathlib.Core.Path.{◌≡◌, refl, ap, ◌∙◌}
-use Prim.Native.Nat.{ℕ, ◌+◌, ◌-◌, ◌/◌, ◌^◌, ◌<◌}
+use Prim.Native.Nat.{ℕ, ◌+◌, ◌/◌, ◌^◌, ◌<◌}
 use native.Mathlib.Nat.{div-le_self, one-le-pow}
 use native.Mathlib.Omega.{arith}
 use Rattle.seconds.proofs.CountedLaw.{base_at, base_room, counted_more, counted_whole, part_next}

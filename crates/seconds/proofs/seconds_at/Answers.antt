@@ -1,7 +1,7 @@
 -- `seconds::seconds_at` meets its contract. The loop's invariant: the second slots of the pairs whose first unknown is below b are filled, and power is
 -- 3 to the b. The measure is what is left of the unknowns.
 use mathlib.Core.Path.{◌≡◌, ap, ◌∙◌}
-use Prim.Native.Nat.{ℕ, ◌-◌, ◌*◌}
+use Prim.Native.Nat.{ℕ, ◌*◌}
 use native.Mathlib.Omega.{arith}
 use Rattle.seconds.proofs.CountedLaw.{power_next, power_small}
 use Rattle.seconds.proofs.FilledLaw.{filled_none, filled_row, filled_whole}

@@ -1,6 +1,5 @@
 -- `sending::run` keeps its contract: the line is told exactly if the whole output was taken.
 use mathlib.Core.Path.{◌≡◌, sym}
-use Prim.Native.Nat.{◌≤◌}
 use native.Mathlib.Omega.{arith}
 use lib.Seq.{length-take-le}
 use borrow.Author.Tests.{not-true, not-false}

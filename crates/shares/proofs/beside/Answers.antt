@@ -1,5 +1,5 @@
 -- `shares::beside` meets its contract: modulo 3 a number may be taken for its remainder.
-use Prim.Native.Nat.{◌+◌, ◌-◌, ◌*◌, ◌/◌, ◌%◌, ◌≤◌}
+use Prim.Native.Nat.{◌+◌, ◌*◌, ◌/◌, ◌%◌, ◌≤◌}
 use native.Mathlib.Nat.{mod-lt, mul-le-mul_right}
 use native.Mathlib.Omega.{arith}
 use Rattle.residues.proofs.ModLaw.{crefl, cadd, cmul}

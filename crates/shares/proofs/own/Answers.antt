@@ -1,6 +1,6 @@
 -- `shares::own` meets its contract: modulo 3 a number may be taken for its remainder.
 use mathlib.Core.Path.{ap}
-use Prim.Native.Nat.{◌+◌, ◌-◌, ◌*◌, ◌/◌, ◌%◌, ◌≤◌}
+use Prim.Native.Nat.{◌+◌, ◌*◌, ◌/◌, ◌%◌, ◌≤◌}
 use native.Mathlib.Nat.{mul-le-mul_right}
 use native.Mathlib.Numerals.{add-one}
 use native.Mathlib.Omega.{arith}

@@ -1,6 +1,5 @@
 -- `turns::product_before` meets its contract: unknown 0 has none before it.
 use mathlib.Core.Path.{sym, ◌∙◌}
-use Prim.Native.Nat.{◌-◌}
 use native.Mathlib.Omega.{arith}
 use Rattle.turns.proofs.FillLaw.{before_none, before_some}
 use Rattle.turns.proofs.product_before.Goals as goal

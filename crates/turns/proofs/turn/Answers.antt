@@ -1,6 +1,5 @@
 -- `turns::turn` meets its contract: its vectors are those of document 01's formulas.
 use mathlib.Core.Path.{◌∙◌}
-use Prim.Native.Nat.{◌-◌}
 use native.Mathlib.Omega.{arith}
 use Rattle.tables.proofs.IndexLaw.{count_is}
 use Rattle.turns.proofs.TurnLaw.{turn_next}

@@ -1,6 +1,5 @@
 -- `turns::turn_products` meets its contract. The invariant: the products before j are written.
 use mathlib.Core.Path.{refl, ap, ◌∙◌}
-use Prim.Native.Nat.{◌-◌}
 use native.Mathlib.Omega.{arith}
 use lib.ListN.{length}
 use Rattle.turns.proofs.TurnLaw.{products_none, products_next, products_all}

@@ -1,7 +1,6 @@
 -- `wire::first_of` meets its contract: after i turns the first i slots are read.
 use mathlib.Core.Path.{refl, ap, ◌∙◌}
 use mathlib.Core.List.{List}
-use Prim.Native.Nat.{◌-◌}
 use native.Mathlib.Omega.{arith}
 use lib.ListN.{length, get_or, length-set}
 use Rattle.trits.specs.declared.Vector.{Vector}

@@ -1,6 +1,5 @@
 -- `wire::no_seconds` meets its contract: no byte so far is other than zero, and what is left decides.
 use mathlib.Core.Path.{refl, ◌∙◌}
-use Prim.Native.Nat.{◌-◌}
 use native.Mathlib.Omega.{arith}
 use Rattle.wire.proofs.ZeroLaw.{any_go, any_end, seconds_zero}
 use borrow.Author.Rules.{rules}

@@ -1,9 +1,9 @@
 -- `wire_out::put_first` meets its contract: after i turns the first 5 + 2 i words are written.
 use mathlib.Core.Path.{sym, ap, ◌∙◌}
 use mathlib.Core.List.{List, ◌++◌}
-use Prim.Native.Nat.{ℕ, ◌-◌, ◌+◌, ◌*◌}
+use Prim.Native.Nat.{ℕ, ◌+◌, ◌*◌}
 use native.Mathlib.Omega.{arith}
-use lib.ListN.{length, take, get_or, set, length-set}
+use lib.ListN.{length, get_or, set, length-set}
 use lib.Seq.{take_all}
 use Rattle.trits.specs.declared.Vector.{Vector}
 use Rattle.opening.proofs.ShapeLaw.{slots_long}

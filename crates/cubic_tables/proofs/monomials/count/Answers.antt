@@ -1,6 +1,6 @@
 -- `cubic_tables::monomials::count` meets its contract.
 use mathlib.Core.Path.{◌≡◌}
-use Prim.Native.Nat.{◌+◌, ◌-◌}
+use Prim.Native.Nat.{◌+◌}
 use native.Mathlib.Omega.{arith}
 use Rattle.cubic_tables.specs.Order.{cubic_count}
 use Rattle.cubic_tables.proofs.OrderLaw.{cubic_count_is, cubic_count_le}

@@ -1,5 +1,4 @@
 -- `cubic_tables::monomials::key` meets its contract.
-use Prim.Native.Nat.{◌-◌}
 use native.Mathlib.Omega.{arith}
 use Rattle.cubic_tables.proofs.OrderLaw.{base_is, pair_is}
 use Rattle.cubic_tables.proofs.monomials.key.Goals as goal

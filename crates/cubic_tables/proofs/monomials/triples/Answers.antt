@@ -1,5 +1,4 @@
 -- `cubic_tables::monomials::triples` meets its contract.
-use Prim.Native.Nat.{◌-◌}
 use native.Mathlib.Omega.{arith}
 use Rattle.cubic_tables.proofs.OrderLaw.{four_le, small_le, cubes_closed}
 use Rattle.cubic_tables.proofs.monomials.triples.Goals as goal

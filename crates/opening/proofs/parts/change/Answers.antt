@@ -1,6 +1,5 @@
 -- `opening::parts::change` meets its contract: the sum of the terms of the unknowns so far.
 use mathlib.Core.Path.{◌≡◌}
-use Prim.Native.Nat.{◌-◌}
 use native.Mathlib.Omega.{arith}
 use Rattle.tables.specs.Monomials.{count_of}
 use Rattle.opening.proofs.ChangeLaw.{sofar_none, sofar_next, sofar_whole}

@@ -1,6 +1,5 @@
 -- `opening::parts::last_move` meets its contract: by the remainder of x.
 use mathlib.Core.Path.{sym}
-use Prim.Native.Nat.{◌-◌}
 use native.Mathlib.Omega.{arith}
 use Rattle.gray.proofs.LatestLaw.{last_zero, last_other}
 use Rattle.opening.proofs.PlaceLaw.{two}
