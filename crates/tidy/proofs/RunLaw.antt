@@ -11,7 +11,6 @@ use Rattle.refusals.specs.Refusal.{number_of}
 use Rattle.graphs.specs.Reading.{words_least, Outcome, graph, refused, outcome_of}
 use Rattle.texts.specs.Text.{refusal_line, Put, ended_line}
 use Rattle.tidying.specs.Tidy.{tidy_text}
-use Rattle.exchange.specs.declared.TidyAnswer.{TidyAnswer}
 use Rattle.exchange.specs.declared.TidyAnswer.TheVariants as answer
 use Rattle.exchange.specs.Answers.{fitting, tidied, answer_of, out_after}
 use Rattle.exchange.proofs.AnswerLaw.{after_graph}

@@ -1,8 +1,7 @@
 -- `driving::drive` keeps its contract and ends: the bytes are counted before each call, and each call but the last examines points.
 use mathlib.Core.Path.{refl, sym, ◌∙◌}
 use mathlib.Core.Bool.{true≢false}
-use Prim.Native.Nat.{◌-◌, ◌≤◌}
-use lib.ListN.{length}
+use Prim.Native.Nat.{◌≤◌}
 use lib.Seq.{length-take-le}
 use native.Mathlib.Omega.{arith}
 use Rattle.planner.proofs.DriveLaw.{falls}
