@@ -11,4 +11,4 @@ pub slice_bounds-run-end : goal.slice_bounds-run-end
 slice_bounds-run-end c = sym (length-take-le _ c.receive.new.buf (rw (sym (ap bytes_of c.in-Bytes.is)) c.receive.ensures))
 
 pub slice_bounds-tell-end : goal.slice_bounds-tell-end
-slice_bounds-tell-end c = sym (length-take-le c.run-ending.result.told c.run-ending.new.list c.run-ending.ensures.fits)
+slice_bounds-tell-end c = sym (length-take-le c.run-ending.result.told c.run-ending.new.text c.run-ending.ensures.fits)

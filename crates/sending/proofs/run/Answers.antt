@@ -45,5 +45,5 @@ returns c =
     let b = c.begin-s in
     let w = c.walk_graph in
     let same : c.send-got.result ≡ b.result.used = omega (arith, c.send-got.ensures, c.if-got-used.false, length-take-le b.result.used b.new.text b.ensures.used) in
-    ends_graph c.args.input.now b.new.table b.new.text b.result _ w.new.list w.result b.ensures (not-false _ c.if-not-s.false) same
+    ends_graph c.args.input.now b.new.table b.new.text b.result _ w.new.text w.result b.ensures (not-false _ c.if-not-s.false) same
     (rw c.words-size.ensures.0 at w.ensures)
