@@ -29,7 +29,7 @@ pub overflow_add-c : goal.overflow_add-c
 overflow_add-c c =
     let a = c.args in
     let q = c.requires.place_bound in
-    let o : 1 < a.rest = omega (arith, c.if-rest-eq1, c.if-rest-eq0) in
+    let o : 1 < a.rest = omega arith in
     let u = second a.place a.b a.rest q.2 o in
     let f : lowest_of 3 (a.place - 3 ^ a.b) < a.n = of_lt 3 two a.n (a.place - 3 ^ a.b) u.0 (omega arith) in
     omega (arith, c.split-f.ensures.position, c.requires.sized.small)
@@ -38,7 +38,7 @@ pub entry-t-requires : goal.entry-t-requires
 entry-t-requires c =
     let a = c.args in
     let q = c.requires.place_bound in
-    let o : 1 < a.rest = omega (arith, c.if-rest-eq1, c.if-rest-eq0) in
+    let o : 1 < a.rest = omega arith in
     let u = second a.place a.b a.rest q.2 o in
     let f : lowest_of 3 (a.place - 3 ^ a.b) < a.n = of_lt 3 two a.n (a.place - 3 ^ a.b) u.0 (omega arith) in
     (c.requires.sized.small, omega arith, omega (arith, c.split-f.ensures.position), c.requires.sized.table)
@@ -47,7 +47,7 @@ pub returns : goal.returns
 returns c =
     let a = c.args in
     let q = c.requires.place_bound in
-    let o : 1 < a.rest = omega (arith, c.if-rest-eq1, c.if-rest-eq0) in
+    let o : 1 < a.rest = omega arith in
     let u = second a.place a.b a.rest q.2 o in
     let h : 0 < a.place = above a.place a.b a.rest q.2 (omega arith) in
     let v = c.raise.ensures in
