@@ -7,9 +7,10 @@ ghost use Rattle.walks.specs.Calls.{stop_number, stop_place};
 ghost use Rattle.outcomes.specs.declared.Answer.TheVariants.{Ran};
 ghost use Rattle.refusals.specs.Limits.{record_length, second_words};
 ghost use Rattle.outcomes.specs.Search.{answer_number, answer_values};
-ghost use Rattle.answers.specs.Written.{answer_length, record_bytes, answer_bytes};
+ghost use Rattle.answers.specs.Written.{answer_length, record_bytes, parts_bytes, answer_bytes};
 
-use opening::First;
+use gray::Place;
+use opening::{First, Record};
 use outcomes::Answer;
 use walks::{Report, Stop};
 
@@ -51,10 +52,17 @@ fn write_answer(end: u64, a: Report, b: &mut [u8])
 
 // Writes what a call gives on a walk that ends at place `end`: the record's first part f, as many words of its second slots as there are in s,
 // and the answer; or with a refusal nothing.
-pub fn finish(end: u64, a: Answer, f: First, s: &[u64], record: &mut [u8], answer: &mut [u8]) -> u64
+pub fn finish_parts(
+    end: u64,
+    a: Answer,
+    f: First,
+    s: &[u64],
+    record: &mut [u8],
+    answer: &mut [u8],
+) -> u64
     requires { (length «record».old ≡ record_length) × (length answer.old ≡ answer_length) × (length s.now ≤ second_words) }
     ensures { (result ≡ answer_number a)
-        × («record».new ≡ record_bytes a f s.now «record».old)
+        × («record».new ≡ parts_bytes a f s.now «record».old)
         × (answer.new ≡ answer_bytes end a answer.old) }
 {
     match a {
@@ -65,4 +73,24 @@ pub fn finish(end: u64, a: Answer, f: First, s: &[u64], record: &mut [u8], answe
         }
         Answer::Refused(x) => refusals::number(x),
     }
+}
+
+// Writes what a call gives on a walk that ends at place `end`: the record r and the answer, or with a refusal nothing.
+pub fn finish(end: u64, a: Answer, r: Record, record: &mut [u8], answer: &mut [u8]) -> u64
+    requires { (length «record».old ≡ record_length) × (length answer.old ≡ answer_length) }
+    ensures { (result ≡ answer_number a)
+        × («record».new ≡ record_bytes a r «record».old)
+        × (answer.new ≡ answer_bytes end a answer.old) }
+{
+    let value = r.value;
+    let slots = r.slots;
+    let f = First {
+        n: r.n,
+        m: r.m,
+        place: Place(r.place.0),
+        value,
+        slots,
+    };
+    let seconds = r.seconds;
+    finish_parts(end, a, f, &seconds, record, answer)
 }

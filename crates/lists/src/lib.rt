@@ -14,9 +14,10 @@ ghost use Rattle.lists.specs.Listed.{found_in, outcome_in, list_in};
 ghost use Rattle.lists.specs.Pieces.{did_of, GoesOn};
 
 use given::Degree;
-use opening::First;
-use outcomes::{Answer, Moved};
+use opening::{First, Record};
+use outcomes::{Answer, Moved, Outcome};
 use refusals::{PIECE_ENTRIES, Verdict};
+use search::{first_for, joined, lent_words};
 use walks::{Report, Stop};
 
 fn lesser(a: usize, b: usize) -> usize
@@ -130,8 +131,8 @@ fn filled(
     }
 }
 
-// One call of the search with the list as bytes: as many entries as there are whole words.
-pub fn search_bytes(
+// One call of the search on a record in two parts, with the list as bytes: as many entries as there are whole words.
+pub fn search_parts(
     degree: Degree,
     n: u64,
     m: u64,
@@ -156,4 +157,24 @@ pub fn search_bytes(
             filled(degree, n, m, table, f, seconds, budget, &mut words, list)
         }
     }
+}
+
+// One call of the search with the list as bytes: as many entries as there are whole words.
+pub fn search_bytes(
+    degree: Degree,
+    n: u64,
+    m: u64,
+    table: &[u64],
+    r: Record,
+    budget: u64,
+    list: &mut [u8],
+) -> Outcome
+    ensures { (result ≡ outcome_in (table_with degree n m table.now) r budget list.old)
+        × (list.new ≡ list_in (table_with degree n m table.now) r budget list.old) }
+{
+    let f = first_for(degree, r);
+    let mut seconds = r.seconds;
+    let k = lent_words(degree);
+    let o = search_parts(degree, n, m, table, f, &mut seconds[..k], budget, list);
+    joined(o, r, seconds)
 }

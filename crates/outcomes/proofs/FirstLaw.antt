@@ -85,7 +85,7 @@ two_parts n m t r long some s false e =
           false≢true (sym e ∙ ap all_zero i ∙ zeros_all 420)),
     )
 
-parts_same : (d : Degree) (n m : ℕ) (t : List ℕ) (r : Record) → length r.seconds ≡ 420 → 1 ≤ n → (s : List ℕ) → seconds_from d s ≡ seconds_from d r.seconds
+pub parts_same : (d : Degree) (n m : ℕ) (t : List ℕ) (r : Record) → length r.seconds ≡ 420 → 1 ≤ n → (s : List ℕ) → seconds_from d s ≡ seconds_from d r.seconds
     → Same (table_with d n m t) (whole_of d (first_for d r) s) r
 parts_same Two n m t r long some s e = two_parts n m t r long some s (all_zero r.seconds) refl
 parts_same Three n m t r long some s e =
@@ -97,7 +97,7 @@ lent_front Two s e = refl
 lent_front Three s e = take_all 420 s (omega (arith, e))
 
 -- and with the rest they are the second slots
-seconds_left : (d : Degree) (s' s : List ℕ) → length s' ≡ lent_words d → length s ≡ 420 → seconds_from d s ≡ s → s' ++ drop (lent_words d) s ≡ seconds_from d s'
+pub seconds_left : (d : Degree) (s' s : List ℕ) → length s' ≡ lent_words d → length s ≡ 420 → seconds_from d s ≡ s → s' ++ drop (lent_words d) s ≡ seconds_from d s'
 seconds_left Two [] s kept long e = sym e
 seconds_left Two (x ∷ s') s kept long e = absurd (omega (arith, kept))
 seconds_left Three s' s kept long e = ap (λ (x : List ℕ). s' ++ x) (drop_of_length-le s {i = 420} (omega (arith, long))) ∙ append-nil s'
@@ -127,6 +127,9 @@ module _ (d : Degree) (n m : ℕ) (t : List ℕ) (r : Record) (long : length r.s
   parts_whole b c e =
       let p = passed g w b c (parts_verdict b c ∙ e) in
       ⊎_elim (λ i. i) (λ f. absurd (false≢true (sym f.0 ∙ p.own))) (same p.checked)
+
+  pub parts_fit : Checked g → fits g r ≡ true → w ≡ r
+  parts_fit ok h = ⊎_elim (λ i. i) (λ f. absurd (false≢true (sym f.1 ∙ h))) (same ok)
 
   -- ---- a call on the parts, put together again
   module _ (b : ℕ) (l : List ℕ) (o : Moved) (k s' : List ℕ) (eo : outcome_with d o s' ≡ outcome_of g w b l) (ek : k ≡ list_left g w b l) where

@@ -4,6 +4,8 @@
 mod calls;
 mod lent;
 mod parts;
+mod walked;
 
-pub use calls::search;
+pub use calls::{judged, ran, search};
 pub use lent::search_lent;
+pub use parts::{first_for, joined, lent_words};

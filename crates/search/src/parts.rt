@@ -11,7 +11,7 @@ use outcomes::{Answer, Moved, Outcome, n_for};
 use refusals::SECOND_WORDS;
 
 // How many words are lent for the second slots of a record.
-pub(crate) fn lent_words(degree: Degree) -> usize
+pub fn lent_words(degree: Degree) -> usize
     ensures { result ≡ lent_words degree }
 {
     match degree {
@@ -21,7 +21,7 @@ pub(crate) fn lent_words(degree: Degree) -> usize
 }
 
 // The first part of a record.
-pub(crate) fn first_for(degree: Degree, r: Record) -> First
+pub fn first_for(degree: Degree, r: Record) -> First
     ensures { result ≡ first_for degree r }
 {
     let seconds = r.seconds;
@@ -39,7 +39,7 @@ pub(crate) fn first_for(degree: Degree, r: Record) -> First
 }
 
 // What a call gives on the record r whose parts it moved: with a refusal the record is as it was.
-pub(crate) fn joined(o: Moved, r: Record, seconds: [u64; SECOND_WORDS]) -> Outcome
+pub fn joined(o: Moved, r: Record, seconds: [u64; SECOND_WORDS]) -> Outcome
     ensures { result ≡ joined_of o.answer o.first r seconds }
 {
     let answer = o.answer;

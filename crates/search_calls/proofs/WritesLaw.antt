@@ -25,7 +25,7 @@ use Rattle.outcomes.proofs.VerdictLaw.{away}
 use Rattle.lists.specs.Listed.{found_in, outcome_in, list_in}
 use Rattle.wire.specs.Wire.{record_in, record_words}
 use Rattle.wire.proofs.WireLaw.{seconds_in, parts_written}
-use Rattle.answers.specs.Written.{record_bytes, answer_bytes}
+use Rattle.answers.specs.Written.{parts_bytes, answer_bytes}
 use Rattle.search_calls.specs.Parts.{Writes}
 
 -- the words of second slot (0, 0) are the first two
@@ -62,7 +62,7 @@ module _ (d : Degree) (n m : ℕ) (t rec s : List ℕ) (lent : seconds_from d s 
 
   -- what the code does
   module _ (eo : outcome_with d o s' ≡ outcome_in g w budget list) (el : list' ≡ list_in g w budget list) (ee : e ≡ 3 ^ n)
-      (ec : c ≡ answer_number o.answer) (er : rec' ≡ record_bytes o.answer o.first s' rec) (ea : answer' ≡ answer_bytes e o.answer answer) where
+      (ec : c ≡ answer_number o.answer) (er : rec' ≡ parts_bytes o.answer o.first s' rec) (ea : answer' ≡ answer_bytes e o.answer answer) where
     abbrev whole : List ℕ
     whole = bytes_from (record_words (outcome_in g r budget list).«record»)
 
@@ -79,7 +79,7 @@ module _ (d : Degree) (n m : ℕ) (t rec s : List ℕ) (lent : seconds_from d s 
         let a : o.answer ≡ said.Refused f = ap (λ (y : Outcome). y.answer) (eo ∙ sym (away g w budget l f u).0) in
         record {
           number = ec ∙ ap answer_number a ∙ sym (ap code_of q);
-          moved = er ∙ ap (λ (y : Answer). record_bytes y o.first s' rec) a ∙ sym (ap (λ (v : Verdict). after v rec whole) q);
+          moved = er ∙ ap (λ (y : Answer). parts_bytes y o.first s' rec) a ∙ sym (ap (λ (v : Verdict). after v rec whole) q);
           listed = el ∙ ap (list_by w) u ∙ sym (ap (list_by r) q);
           told = ea ∙ ap (λ (y : Answer). answer_bytes e y answer) a ∙ sym (ap (λ (v : Verdict). after v answer values) q);
         }
@@ -95,7 +95,7 @@ module _ (d : Degree) (n m : ℕ) (t rec s : List ℕ) (lent : seconds_from d s 
           let z : seconds_from d r.seconds ≡ r.seconds = sym lent ∙ ap (λ (x : Record). x.seconds) i in
           record {
             number = ec ∙ ap answer_number a ∙ sym (ap code_of q);
-            moved = er ∙ ap (λ (y : Answer). record_bytes y o.first s' rec) a ∙ parts_written d o.first s' rec size twenty kept z
+            moved = er ∙ ap (λ (y : Answer). parts_bytes y o.first s' rec) a ∙ parts_written d o.first s' rec size twenty kept z
                 ∙ ap (λ (y : Outcome). bytes_from (record_words y.«record»)) eo' ∙ sym (ap (λ (v : Verdict). after v rec whole) q);
             listed = el ∙ ap (λ (x : Record). list_in g x budget list) i;
             told = ea ∙ ap₂ (λ (x : ℕ) (y : Answer). answer_bytes x y answer) ee a ∙ ap (λ (y : Answer). bytes_from (answer_values (3 ^ n) y)) (sym b)

@@ -124,11 +124,11 @@ fn over_words(
     codec::decode(table, &mut words[..k]);
     let f = first_in(degree, record);
     wire::read_seconds(record, seconds);
-    let o = lists::search_bytes(degree, n, m, &words[..k], f, seconds, budget, list);
+    let o = lists::search_parts(degree, n, m, &words[..k], f, seconds, budget, list);
     let end = positions::power(n);
     let said = o.answer;
     let moved = o.first;
-    answers::finish(end, said, moved, seconds, record, answer)
+    answers::finish_parts(end, said, moved, seconds, record, answer)
 }
 
 // The search over bytes, with room for the words of a table and of second slots of its degree: of degree 2 there are none of these.

@@ -14,7 +14,7 @@ use Rattle.given.specs.declared.Degree.TheVariants.{Two, Three}
 use Rattle.opening.specs.declared.First.{First}
 use Rattle.opening.specs.declared.Record.{Record}
 use Rattle.opening.specs.First.{lent_words, seconds_from, first_of, whole_of}
-use Rattle.wire.specs.Wire.{vectors_of, words_from, first_words, first_with, record_words, record_with, record_of, record_in, parts_in}
+use Rattle.wire.specs.Wire.{vectors_of, words_from, part_words, first_with, record_words, record_with, record_of, record_in, parts_in}
 
 pub vectors_two : (h l : ℕ) (t : List ℕ) → vectors_of (h ∷ l ∷ t) ≡ record { high = h; low = l } ∷ vectors_of t
 unfolding vectors_of
@@ -125,17 +125,17 @@ unfolding words_from
 words_length [] = refl
 words_length (v ∷ vs) = omega (arith, words_length vs)
 
-pub first_length : (r : First) → length r.slots ≡ 20 → length (first_words r) ≡ 45
+pub first_length : (r : First) → length r.slots ≡ 20 → length (part_words r) ≡ 45
 first_length r e = omega (arith, words_length r.slots, e)
 
 pub record_words_lem : (r : Record) → length r.slots ≡ 20 → record_of (record_words r) ≡ r
 record_words_lem r e =
     let l = first_length (first_of r) e in
-    ap₂ record_with (take_at (first_words (first_of r)) r.seconds 45 l) (drop_at (first_words (first_of r)) r.seconds 45 l)
+    ap₂ record_with (take_at (part_words (first_of r)) r.seconds 45 l) (drop_at (part_words (first_of r)) r.seconds 45 l)
     ∙ ap (λ (s : List Vector). record { n = r.n; m = r.m; place = r.place; value = r.value; slots = s; seconds = r.seconds }) (vectors_words r.slots)
 
 -- the first words of a record that was read are those that were read
-first_words_lem : (w : List ℕ) → length w ≡ 45 → first_words (first_with w) ≡ w
+first_words_lem : (w : List ℕ) → length w ≡ 45 → part_words (first_with w) ≡ w
 first_words_lem w e =
     let d : length (drop 5 w) ≡ 2 * 20 = length-drop 5 w ∙ omega (arith, e) in
     ap (λ (m : List ℕ). get_or w 0 0 ∷ get_or w 1 0 ∷ get_or w 2 0 ∷ get_or w 3 0 ∷ get_or w 4 0 ∷ m) (words_vectors 20 (drop 5 w) d)
@@ -215,10 +215,10 @@ zero_bytes (suc k) b l e =
 -- what is written of a record in two parts is the whole record
 pub parts_written : (d : Degree) (f : First) (s b : List ℕ) → length b ≡ 3720 → length f.slots ≡ 20 → length s ≡ lent_words d
     → seconds_from d (record_in b).seconds ≡ (record_in b).seconds → parts_in b f s ≡ bytes_from (record_words (whole_of d f s))
-parts_written Three f s b e n l z = write_parts b (first_words f) s e (first_length f n) l
+parts_written Three f s b e n l z = write_parts b (part_words f) s e (first_length f n) l
 parts_written Two f (x ∷ s) b e n l z = absurd (omega (arith, l))
 parts_written Two f [] b e n l z =
-    let u = first_words f in
+    let u = part_words f in
     let lu : length (bytes_from u) ≡ 360 = length_from u ∙ ap (λ (k : ℕ). 8 * k) (first_length f n) in
     let at : 0 + length (bytes_from u) ≡ 360 = omega (arith, lu) in
     let x = pasted b 0 (bytes_from u) in

@@ -5,7 +5,6 @@ use Rattle.trits.specs.declared.Vector.{Vector}
 use Rattle.codec.specs.Codec.{words_of, bytes_from, pasted}
 use Rattle.opening.specs.declared.First.{First}
 use Rattle.opening.specs.declared.Record.{Record}
-use Rattle.opening.specs.First.{first_of}
 
 -- vectors as words, high before low, and back
 unfoldable pub words_from : List Vector → List ℕ
@@ -18,12 +17,16 @@ vectors_of (h ∷ []) = []
 vectors_of (h ∷ l ∷ t) = record { high = h; low = l } ∷ vectors_of t
 
 -- the first 45 words of a record: n, m, place, the value's two, and two for each of the 20 slots
-abbrev pub first_words : First → List ℕ
+abbrev pub first_words : Record → List ℕ
 first_words r = r.n ∷ r.m ∷ r.place.0 ∷ r.value.high ∷ r.value.low ∷ words_from r.slots
 
 -- a record as 465 words: then the second slots, as they stand in it
 abbrev pub record_words : Record → List ℕ
-record_words r = first_words (first_of r) ++ r.seconds
+record_words r = first_words r ++ r.seconds
+
+-- the first 45 words of a record that has this first part
+abbrev pub part_words : First → List ℕ
+part_words f = f.n ∷ f.m ∷ f.place.0 ∷ f.value.high ∷ f.value.low ∷ words_from f.slots
 
 -- the first part of a record, of its first 45 words
 abbrev pub first_with : List ℕ → First
@@ -58,4 +61,4 @@ record_in b = record_of (words_of limits.record_words b)
 
 -- the bytes b of a record with a first part and the words s put in, these from the first second slot on; the rest as it was
 abbrev pub parts_in : List ℕ → First → List ℕ → List ℕ
-parts_in b f s = pasted (pasted b 0 (bytes_from (first_words f))) 360 (bytes_from s)
+parts_in b f s = pasted (pasted b 0 (bytes_from (part_words f))) 360 (bytes_from s)

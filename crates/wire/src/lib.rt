@@ -3,12 +3,13 @@
 
 ghost use Rattle.std.specs.Prelude.{◌≡◌, ◌≤◌, length, take};
 ghost use Rattle.refusals.specs.Limits as limits;
+ghost use Rattle.codec.specs.Codec.{words_of};
 ghost use Rattle.opening.specs.First.{all_zero, first_of};
-ghost use Rattle.wire.specs.Wire.{first_with, record_in};
+ghost use Rattle.wire.specs.Wire.{first_with, record_in, record_of};
 
 use gray::Place;
-use opening::First;
-use refusals::{FIRST_LENGTH, FIRST_WORDS, MOST_UNKNOWNS, RECORD_LENGTH};
+use opening::{First, Record};
+use refusals::{FIRST_LENGTH, FIRST_WORDS, MOST_UNKNOWNS, RECORD_LENGTH, SECOND_WORDS};
 use trits::Vector;
 
 // The first part of a record, of its first 45 words.
@@ -57,6 +58,26 @@ pub fn read_seconds(b: &[u8], s: &mut [u64])
     ensures { s.new ≡ take (length s.old) (record_in b.now).seconds }
 {
     codec::decode(&b[FIRST_LENGTH..], s);
+}
+
+// The record that 3,720 bytes stand for.
+pub fn read_record(b: &[u8]) -> Record
+    requires { length b.now ≡ limits.record_length }
+    ensures { result ≡ record_of (words_of limits.record_words b.now) }
+{
+    let f = read_first(b);
+    let mut seconds = [0u64; SECOND_WORDS];
+    read_seconds(b, &mut seconds);
+    let value = f.value;
+    let slots = f.slots;
+    Record {
+        n: f.n,
+        m: f.m,
+        place: Place(f.place.0),
+        value,
+        slots,
+        seconds,
+    }
 }
 
 // Whether the record that 3,720 bytes stand for has no second slots. No byte ends it early, so that the compiler looks at several at once.

@@ -3,7 +3,8 @@
 
 ghost use Rattle.std.specs.Prelude.{◌≡◌, ◌≤◌, length};
 ghost use Rattle.refusals.specs.Limits as limits;
-ghost use Rattle.wire.specs.Wire.{first_words, record_words, parts_in};
+ghost use Rattle.codec.specs.Codec.{bytes_from};
+ghost use Rattle.wire.specs.Wire.{part_words, record_words, parts_in};
 
 use gray::Place;
 use opening::{First, Record};
@@ -12,7 +13,7 @@ use refusals::{FIRST_WORDS, MOST_UNKNOWNS, SECOND_WORDS};
 // All of w becomes the first 45 words of a record.
 fn put_first(r: First, w: &mut [u64])
     requires { length w.old ≡ limits.first_words }
-    ensures { w.new ≡ first_words r }
+    ensures { w.new ≡ part_words r }
 {
     w[0] = r.n;
     w[1] = r.m;
@@ -68,4 +69,22 @@ pub fn write_parts(f: First, s: &[u64], b: &mut [u8])
     put_first(f, &mut w);
     codec::encode(&w, b, 0);
     codec::encode(s, b, FIRST_WORDS);
+}
+
+// All of b becomes the 3,720 bytes of a record.
+pub fn write_record(r: Record, b: &mut [u8])
+    requires { length b.old ≡ limits.record_length }
+    ensures { b.new ≡ bytes_from (record_words r) }
+{
+    let value = r.value;
+    let slots = r.slots;
+    let f = First {
+        n: r.n,
+        m: r.m,
+        place: Place(r.place.0),
+        value,
+        slots,
+    };
+    let s = r.seconds;
+    write_parts(f, &s, b);
 }

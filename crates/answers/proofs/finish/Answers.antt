@@ -1,24 +1,29 @@
--- `answers::finish` meets its contract: each arm is a clause of the definitions.
-use mathlib.Core.Path.{sym, ap, ◌∙◌}
+-- `answers::finish` meets its contract: the two parts of a record, told whole, are the record.
+use mathlib.Core.Path.{◌≡◌, refl, ◌∙◌}
+use mathlib.Core.List.{List}
+use Prim.Native.Nat.{ℕ}
+use lib.ListN.{length}
+use denote.Struct.Laws as LL
+use Rattle.opening.specs.declared.Record.{Record}
+use Rattle.opening.specs.First.{first_of}
+use Rattle.opening.specs.contracts.Record as T
+use Rattle.opening.proofs.Record.TheLaws as T'
+use Rattle.opening.proofs.ShapeLaw.{seconds_long}
 use Rattle.outcomes.specs.declared.Answer.{Answer}
-use Rattle.outcomes.specs.Search.{answer_number}
-use Rattle.answers.specs.Written.{record_bytes, answer_bytes}
+use Rattle.outcomes.specs.declared.Answer.TheVariants.{Ran, Refused}
+use Rattle.wire.specs.Wire.{part_words}
+use Rattle.wire.proofs.WireLaw.{first_length, write_parts}
+use Rattle.answers.specs.Written.{record_bytes, parts_bytes}
 use Rattle.answers.proofs.finish.Goals as goal
 
-pub returns-in-Ran : goal.returns-in-Ran
-returns-in-Ran c =
-    let a = c.args in
-    let e = c.in-Ran.is in (
-      sym (ap answer_number e),
-      c.write_parts.ensures ∙ sym (ap (λ (x : Answer). record_bytes x a.f a.s.now a.«record».now) e),
-      c.write_answer.ensures ∙ sym (ap (λ (x : Answer). answer_bytes a.end x a.answer.now) e),
-    )
-
-pub returns-in-Refused : goal.returns-in-Refused
-returns-in-Refused c =
-    let a = c.args in
-    let e = c.in-Refused.is in (
-      c.number.ensures.0 ∙ sym (ap answer_number e),
-      sym (ap (λ (x : Answer). record_bytes x a.f a.s.now a.«record».now) e),
-      sym (ap (λ (x : Answer). answer_bytes a.end x a.answer.now) e),
-    )
+pub returns : goal.returns
+returns c =
+    let r = c.args.r in
+    let slots : length r.slots ≡ 20 = (LL.owed T.the_type T'.the_laws r _ c.well_formed.1.1.0).1.1.1.1.0.1.0.1 in
+    let e = c.finish_parts.ensures in
+    (e.0, e.1 ∙ whole c.args.a r _ c.requires.0 slots (seconds_long r _ c.well_formed.1.1.0), e.2)
+  where
+    whole : (a : Answer) (r : Record) (b : List ℕ) → length b ≡ 3720 → length r.slots ≡ 20 → length r.seconds ≡ 420
+        → parts_bytes a (first_of r) r.seconds b ≡ record_bytes a r b
+    whole (Ran x) r b e n l = write_parts b (part_words (first_of r)) r.seconds e (first_length (first_of r) n) l
+    whole (Refused x) r b e n l = refl

@@ -29,18 +29,18 @@ decode-requires c =
 pub read_seconds-requires : goal.read_seconds-requires
 read_seconds-requires c = (c.requires.2, omega (arith, c.requires.1, lent_most c.args.degree))
 
-pub slice_bounds-search_bytes-end-2 : goal.slice_bounds-search_bytes-end-2
-slice_bounds-search_bytes-end-2 c =
+pub slice_bounds-search_parts-end-2 : goal.slice_bounds-search_parts-end-2
+slice_bounds-search_parts-end-2 c =
     let a = c.args in
     let d = c.decode in
     sym (ap length (decoded (length a.table.now / 8) a.words.now a.table.now d.new.out c.requires.0 d.ensures) ∙ length_words (length a.table.now / 8) a.table.now)
 
-pub search_bytes-o-requires : goal.search_bytes-o-requires
-search_bytes-o-requires c = c.read_seconds.auto.s ∙ c.requires.1
+pub search_parts-o-requires : goal.search_parts-o-requires
+search_parts-o-requires c = c.read_seconds.auto.s ∙ c.requires.1
 
-pub finish-requires : goal.finish-requires
-finish-requires c =
-    let k = c.search_bytes-o.auto.seconds in
+pub finish_parts-requires : goal.finish_parts-requires
+finish_parts-requires c =
+    let k = c.search_parts-o.auto.seconds in
     let j = c.read_seconds.auto.s in
     (c.requires.2, c.requires.3, omega (arith, k, j, c.requires.1, lent_most c.args.degree))
 
@@ -59,8 +59,8 @@ returns c =
     let d = c.decode in
     let f = c.first_in-f in
     let r = c.read_seconds in
-    let x = c.search_bytes-o in
-    let y = c.finish in
+    let x = c.search_parts-o in
+    let y = c.finish_parts in
     let s = r.new.s in
     let t = decoded (length a.table.now / 8) a.words.now a.table.now d.new.out c.requires.0 d.ensures in
     let w : List ℕ → First → Outcome = λ q g. outcome_in (table_with a.degree a.n a.m q) (whole_of a.degree g s) a.budget a.list.now in
@@ -68,4 +68,4 @@ returns c =
     writes a.degree a.n a.m _ a.«record».now s (seconds_lent a.degree a.«record».now s (length a.seconds.now) c.requires.1 r.ensures) a.budget a.list.now a.answer.now
     x.result x.new.seconds _ _ _ _ _ (x.ensures.0 ∙ ap₂ w t f.ensures) (x.ensures.1 ∙ ap₂ v t f.ensures)
     (c.power-end.ensures.0 (omega (arith, c.requires.4))) y.ensures.0 y.ensures.1 y.ensures.2
-    c.requires.2 (slots_long x.result.first _ x.type-inv.1.1.1.0) (x.auto.seconds ∙ r.auto.s ∙ c.requires.1)
+    c.requires.2 (slots_long x.result.first _ x.type_inv.1.1.1.0) (x.auto.seconds ∙ r.auto.s ∙ c.requires.1)

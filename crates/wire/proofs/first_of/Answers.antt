@@ -2,7 +2,7 @@
 use mathlib.Core.Path.{refl, ap, ◌∙◌}
 use mathlib.Core.List.{List}
 use native.Mathlib.Omega.{arith}
-use lib.ListN.{length, get_or, length-set}
+use lib.ListN.{get_or, length-set}
 use Rattle.trits.specs.declared.Vector.{Vector}
 use Rattle.wire.proofs.WireLaw.{read_turn, read_end}
 use Rattle.wire.proofs.first_of.Goals as goal

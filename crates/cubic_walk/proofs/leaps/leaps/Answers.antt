@@ -3,7 +3,7 @@ use mathlib.Core.Path.{◌≡◌, refl, ap}
 use Prim.Native.Nat.{ℕ}
 use native.Mathlib.Omega.{arith}
 use lib.ListN.{length}
-use borrow.Author.Tests.{not-false}
+use borrow.Author.Rules.{rules}
 use Rattle.cubic_walk.specs.Run.{state_of, search_of}
 use Rattle.cubic_walk.proofs.LeapsLaw.{kept_none, first, seconds, kept_more, kept_done}
 use Rattle.cubic_walk.proofs.leaps.leaps.Goals as goal
@@ -15,7 +15,7 @@ returns-then-not-ready c =
 
 pub keys-k-requires : goal.keys-k-requires
 keys-k-requires c =
-    let y = c.ready.ensures (not-false _ c.if-not-ready.false-raw) in
+    let y = c.ready.ensures (search rules) in
     (y.0, c.requires.sized.small)
 
 pub all_keys-all-requires : goal.all_keys-all-requires
@@ -24,7 +24,7 @@ all_keys-all-requires c = c.requires.sized.small
 pub loop-k-init : goal.loop-k-init
 loop-k-init c =
     let a = c.args in
-    let y = c.ready.ensures (not-false _ c.if-not-ready.false-raw) in
+    let y = c.ready.ensures (search rules) in
     let k : length a.r.walker.slots ≡ 20 = c.well_formed.1.1.1.0.1.1.0.1.1.1.1.0.1.0.1 in
     (refl, c.keys-k.ensures, c.all_keys-all.ensures, rw c.opened-x.ensures (kept_none a.table.now a.n a.end c.requires.sized a.budget a.r a.list.now k c.requires.sane_2 y.1 y.2))
 

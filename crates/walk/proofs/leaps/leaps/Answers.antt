@@ -3,7 +3,7 @@ use mathlib.Core.Path.{◌≡◌, refl, ap}
 use Prim.Native.Nat.{ℕ}
 use native.Mathlib.Omega.{arith}
 use lib.ListN.{length}
-use borrow.Author.Tests.{not-false}
+use borrow.Author.Rules.{rules}
 use Rattle.walk.specs.Run.{state_of, search_of}
 use Rattle.walk.proofs.LeapsLaw.{kept_none, fits, kept_more, kept_done}
 use Rattle.walk.proofs.leaps.leaps.Goals as goal
@@ -16,13 +16,13 @@ returns-then-not-ready c =
 pub tops-top-requires : goal.tops-top-requires
 tops-top-requires c =
     let z = c.requires.sized in
-    let y = c.ready.ensures (not-false _ c.if-not-ready.false-raw) in
+    let y = c.ready.ensures (search rules) in
     record { sized = record { some = z.some; small = z.small; table = z.table; end = omega arith }; le_n = omega (arith, y) }
 
 pub loop-top-init : goal.loop-top-init
 loop-top-init c =
     let a = c.args in
-    let y = c.ready.ensures (not-false _ c.if-not-ready.false-raw) in
+    let y = c.ready.ensures (search rules) in
     let k : length a.r.walker.slots ≡ 20 = c.well_formed.1.1.1.0.1.1.0.1.1.1.1.0.1.0.1 in
     (refl, rw c.opened-x.ensures (kept_none a.table.now a.n a.end c.requires.sized a.budget a.r a.list.now k c.requires.sane_2 y.1 y.2))
 

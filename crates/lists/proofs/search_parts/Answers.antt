@@ -1,0 +1,27 @@
+-- `lists::search_parts` meets its contract: judged once, then refused or filled.
+use mathlib.Core.Path.{sym, ◌∙◌}
+use Prim.Native.Nat.{◌/◌}
+use native.Mathlib.Omega.{arith}
+use lib.ListN.{length}
+use Rattle.outcomes.proofs.VerdictLaw.{passed}
+use Rattle.lists.proofs.ListedLaw.{listed_refused, listed_done}
+use Rattle.given.specs.Given.{table_with}
+use Rattle.opening.specs.First.{whole_of}
+use Rattle.lists.proofs.search_parts.Goals as goal
+
+pub filled-requires : goal.filled-requires
+filled-requires c =
+    let a = c.args in
+    let p = passed (table_with a.degree a.n a.m a.table.now) (whole_of a.degree a.f a.seconds.now) a.budget (length a.list.now / 8) (sym c.judged-verdict.ensures ∙ c.in-Done.is) in
+    (p.checked, p.own, omega arith, c.requires)
+
+pub returns-in-Refused : goal.returns-in-Refused
+returns-in-Refused c =
+    let a = c.args in
+    listed_refused (table_with a.degree a.n a.m a.table.now) (whole_of a.degree a.f a.seconds.now) a.budget a.list.now _ (sym c.judged-verdict.ensures ∙ c.in-Refused.is)
+
+pub returns-in-Done : goal.returns-in-Done
+returns-in-Done c =
+    let a = c.args in
+    let f = c.filled in
+    listed_done (table_with a.degree a.n a.m a.table.now) (whole_of a.degree a.f a.seconds.now) a.budget a.list.now (sym c.judged-verdict.ensures ∙ c.in-Done.is) _ _ f.ensures.0 f.ensures.1

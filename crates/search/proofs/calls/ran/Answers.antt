@@ -1,0 +1,26 @@
+-- `search::calls::ran` meets its contract: the walk from the opened record, reported.
+use mathlib.Core.Path.{◌≡◌}
+use Prim.Native.Nat.{◌^◌}
+use native.Mathlib.Omega.{arith}
+use Rattle.given.specs.Given.{table_with}
+use Rattle.given.proofs.TableLaw.{within}
+use Rattle.search.proofs.RanLaw.{left_place, ran_is}
+use Rattle.search.proofs.calls.ran.Goals as goal
+
+pub walked-t-requires : goal.walked-t-requires
+walked-t-requires c =
+    let a = c.args in
+    (c.requires.0, c.requires.1, c.power-end.ensures.0 (omega (arith, (within (table_with a.degree a.n a.m a.table.now) c.requires.0).most)))
+
+pub reported-requires : goal.reported-requires
+reported-requires c =
+    let a = c.args in
+    let x = c.walked-t in
+    omega (arith, left_place (table_with a.degree a.n a.m a.table.now) a.r.place.0 a.budget a.list.now _ x.result x.ensures)
+
+pub returns : goal.returns
+returns c =
+    let a = c.args in
+    let x = c.walked-t in
+    let p : c.power-end.result ≡ 3 ^ a.n = c.power-end.ensures.0 (omega (arith, (within (table_with a.degree a.n a.m a.table.now) c.requires.0).most)) in
+    ran_is (table_with a.degree a.n a.m a.table.now) a.r.place.0 a.budget a.list.now _ x.result x.ensures _ _ p c.reported.ensures
