@@ -1,4 +1,4 @@
-// How a program ends: what is told once its output was taken and closed. Contracts cite specs/Endings.
+// How a program ends: what is told once its output was taken and is well at its end. Contracts cite specs/Endings.
 #![tactic(auto)]
 
 ghost use Rattle.std.specs.Prelude.{length};
@@ -6,7 +6,7 @@ ghost use Rattle.endings.specs.Endings.{Concludes, Delivers};
 
 use streams::Output;
 
-// How many bytes are to be told, how many bytes of the output were taken, and whether closing it went well.
+// How many bytes are to be told, how many bytes of the output were taken, and whether it was well at its end (`streams::finish`).
 #[derive(Drop)]
 pub struct Ending {
     pub told: usize,
@@ -14,7 +14,7 @@ pub struct Ending {
     pub closed: bool,
 }
 
-// The end of a run that wrote everything: the output is closed, and as much is told as there is to tell, if that went well.
+// The end of a run that wrote everything: as much is told as there is to tell, if the output is well at its end.
 pub fn concluded(rt: &HostRuntime, told: usize, sent: u64) -> Ending
     ensures { Concludes told sent result }
 {
