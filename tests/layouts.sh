@@ -52,7 +52,7 @@ closed_input() { ./layouts "$@" <&-; }
 gives 1 'standard input is closed' closed_input
 gives 0 '' closed_input examples/full4.col
 program_closed_input() { crates/layouts/out/layouts <&-; }
-gives 0 . program_closed_input # in words: the program has no exit status
+gives 0 . program_closed_input # in words: the program's own exit status does not tell
 [[ ! -s $out/stdout ]] || fail "a closed input: $(head -n 1 "$out/stdout")"
 gives 2 'refused: there is no p line (11)' from /dev/null
 [[ $(cat "$out/stdout") == 'refused 11 line 0' ]] || fail 'an empty text'

@@ -78,7 +78,7 @@ for how in silent full_words broken_words; do
     cmp "$out/stdout" examples/sites.tidy || fail "$how: another output"
 done
 program_full() { crates/tidy/out/tidy <examples/sites.col >/dev/full 3>"$out/told"; }
-gives 0 'could not be written' program_full # in words: the program has no exit status
+gives 0 'could not be written' program_full # in words: the program's own exit status does not tell
 [[ ! -s $out/told ]] || fail 'something is told of an output that was not taken'
 # What no contract can say: to which descriptors the program writes.
 for file in examples/*.col; do

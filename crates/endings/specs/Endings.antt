@@ -4,7 +4,7 @@ use Rattle.std.specs.Prelude.{◌≡◌, Bool, true, false, ◌&&◌, List, ℕ,
 use Rattle.texts.specs.Text.{line_if}
 use Rattle.endings.specs.declared.Ending.{Ending}
 
--- the line is told exactly if the output's bytes, so many, were all taken and it could be closed; nothing is told otherwise
+-- the line is told exactly if the output's bytes, so many, were all taken and it was well at its end; nothing is told otherwise
 pub record Tells (all : ℕ) (line b : List ℕ) (r : Ending) : Type 0 where
   pub fits : r.told ≤ length b
   pub told : take r.told b ≡ line_if (eqb r.sent all && r.closed) line
@@ -15,7 +15,7 @@ abbrev pub told_if : Bool → ℕ → ℕ
 told_if true k = k
 told_if false k = 0
 
--- all was taken: what is told hangs on closing
+-- all was taken: what is told hangs on the output's end
 pub record Concludes (k bytes : ℕ) (r : Ending) : Type 0 where
   pub told : r.told ≡ told_if r.closed k
   pub sent : r.sent ≡ bytes
