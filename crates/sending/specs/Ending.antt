@@ -6,7 +6,7 @@ use Rattle.endings.specs.Endings.{Tells}
 use Rattle.planner.specs.declared.Session.{Session}
 use Rattle.planner.specs.Output.{output_of, told_of, left_of, walk_told}
 
--- what is to be told for the input is told exactly if the output's bytes were all taken and it could be closed; nothing is told otherwise
+-- what is to be told for the input is told exactly if the output's bytes were all taken and it was well at its end; nothing is told otherwise
 abbrev pub Ends : List ℕ → List ℕ → Ending → Type 0
 Ends input b r = Tells (length (output_of input)) (told_of input) b r
 
