@@ -132,7 +132,6 @@ build() {
         watch_build "$log"
         wait "$builder" || { end_build; die "the program could not be built: 'rt run' in crates/$name failed; the log is $log"; }
         [[ -x $program ]] || { end_build; die "'rt run' in crates/$name left no program; remove the folder crates/$name/out and try again"; }
-        rt version >"$place/$name.kit" 2>/dev/null
         touch -r "$room/began" "$program" # also when rt saw that nothing had really changed
         end_build
     fi
@@ -148,10 +147,13 @@ commit() {
 
 # The commit or release of the sources, and the kit that proved the program.
 version() {
-    local source kit built='the program is not built yet, or older than its sources'
+    local source sum kit built='the program is not built yet, or older than its sources'
     source=$(commit 2>/dev/null) ||
         source=$(grep -v Format "$home/commands/release" 2>/dev/null) || source='of no known commit'
-    kit=$(grep . "$place/$name.kit" 2>/dev/null) || kit='a kit of no known logic'
+    sum=$(grep -aom 1 'rattle logic=[0-9a-f]\{16\}' "$program" 2>/dev/null) # it stands in the program itself
+    sum=${sum#*=}
+    kit=$(rt version 2>/dev/null) || kit=
+    [[ -n $sum && $kit == *"$sum" ]] || kit="a kit with logic ${sum:-unknown}"
     outdated || built="the program was proved by $kit"
     printf '%s, Vayudrit %s\n%s\n' "$name" "$source" "$built"
 }
