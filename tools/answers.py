@@ -3,12 +3,13 @@
 
 usage: tools/answers.py NAMES CRATE [FUNCTION ..]     at the top; NAMES is the folder that 'rt names NAMES' wrote
 
-An answer that was a bare search is left to the check. Every other is kept under the goal's new name, with its paths turned: a step has one
+The older file goes to NAMES/old. An answer that was a bare search is left to the check. Every other is kept under the goal's new name, with its paths turned: a step has one
 field of c under a new name, so the chains of .before go. What it cannot turn it prints as 'left:'. It proves nothing: rt check decides.
 """
 import json
 import os
 import re
+import shutil
 import sys
 
 NAMES, CRATE = sys.argv[1], sys.argv[2]
@@ -430,8 +431,9 @@ def convert(folder, names):
         head = comments[:] if (file == "Answers.antt" or not ans) else []
         with open(os.path.join(folder, file), "w", encoding="utf-8") as f:
             f.write("\n".join(head + imports(text) + [f"use {module}.{suffix} as goal", "", text, ""]))
-    os.makedirs("/tmp/old-proofs/" + folder, exist_ok=True)
-    os.replace(p, "/tmp/old-proofs/" + p)
+    old = os.path.join(NAMES, "old", p)
+    os.makedirs(os.path.dirname(old), exist_ok=True)
+    shutil.move(p, old)
     for l in t.left:
         print("left:", l)
 
