@@ -8,7 +8,7 @@ ghost use Rattle.tables.specs.Monomials.{count_of};
 ghost use Rattle.tables.specs.Words.{legal_front};
 ghost use Rattle.tables.specs.Answers.{checked_of, entries_verdict, copy_verdict};
 
-use refusals::{Refusal, Verdict, sizes_fit};
+use refusals::{Refusal, sizes_fit};
 use tables::{count, vector};
 use trits::legal;
 
@@ -28,36 +28,36 @@ fn legal_front(m: u64, entries: usize, table: &[u64]) -> usize
 }
 
 // One table read, and another of `words` words to be written, of so many entries: both lengths come before the pairs.
-pub fn check_entries(m: u64, entries: usize, from: &[u64], words: usize) -> Verdict
+pub fn check_entries(m: u64, entries: usize, from: &[u64], words: usize) -> Result<(), Refusal>
     requires { entries < 2 ^ 32 }
     ensures { (to : List ℕ) → length to ≡ words → result ≡ entries_verdict entries m from.now to }
 {
     if from.len() != 2 * entries {
-        return Verdict::Refused(Refusal::Length);
+        return Err(Refusal::Length);
     }
     if words != 2 * entries {
-        return Verdict::Refused(Refusal::Length);
+        return Err(Refusal::Length);
     }
     let front = legal_front(m, entries, from);
     if front < entries {
         let number = front as u32;
-        return Verdict::Refused(Refusal::Pair(number));
+        return Err(Refusal::Pair(number));
     }
-    Verdict::Done
+    Ok(())
 }
 
 // The same for tables of n unknowns: their sizes come first.
-pub fn check_copy(n: u64, m: u64, from: &[u64], words: usize) -> Verdict
+pub fn check_copy(n: u64, m: u64, from: &[u64], words: usize) -> Result<(), Refusal>
     ensures { (to : List ℕ) → length to ≡ words → result ≡ copy_verdict n m from.now to }
 {
     if !sizes_fit(n, m) {
-        return Verdict::Refused(Refusal::Size);
+        return Err(Refusal::Size);
     }
     check_entries(m, count(n as usize), from, words)
 }
 
 // A table by itself: its sizes, its length, its pairs. It is judged as if it were to be written, too.
-pub fn check(n: u64, m: u64, table: &[u64]) -> Verdict
+pub fn check(n: u64, m: u64, table: &[u64]) -> Result<(), Refusal>
     ensures answer { result ≡ checked_of n m table.now }
     ensures number { code_of result ≡ code_of (checked_of n m table.now) }
 {

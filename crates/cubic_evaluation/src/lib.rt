@@ -17,8 +17,8 @@ use evaluation::digits;
 use gray::Point;
 use listed::{nonzero_into, turned};
 use positions::power;
-use refusals::{MOST_UNKNOWNS, Refusal, Verdict};
-use tables::{Evaluated, vector};
+use refusals::{MOST_UNKNOWNS, Refusal};
+use tables::vector;
 use trits::{Vector, add};
 
 // The value at the listed unknowns of a point.
@@ -55,18 +55,18 @@ pub fn value_at(table: &[u64], n: usize, x: &[u64; MOST_UNKNOWNS]) -> Vector
 }
 
 // The value of each equation at a point.
-pub fn evaluate(n: u64, m: u64, coefficients: &[u64], x: Point) -> Evaluated
+pub fn evaluate(n: u64, m: u64, coefficients: &[u64], x: Point) -> Result<Vector, Refusal>
     ensures { (result ≡ cubic_evaluate n m coefficients.now x.0) × CubicTells n m coefficients.now x.0 result }
 {
     let verdict = check(n, m, coefficients);
     match verdict {
-        Verdict::Refused(r) => Evaluated::Refused(r),
-        Verdict::Done => {
+        Err(r) => Err(r),
+        Ok(()) => {
             if x.0 >= power(n) {
-                return Evaluated::Refused(Refusal::Range);
+                return Err(Refusal::Range);
             }
             let d = digits(x.0);
-            Evaluated::Value(value_at(coefficients, n as usize, &d))
+            Ok(value_at(coefficients, n as usize, &d))
         }
     }
 }

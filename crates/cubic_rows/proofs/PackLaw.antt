@@ -3,7 +3,7 @@ use mathlib.Core.Path.{◌≡◌}
 use mathlib.Core.List.{List}
 use Prim.Native.Nat.{ℕ}
 use lib.IntN.{ℤ}
-use Rattle.refusals.specs.declared.Verdict.{Verdict}
+use Rattle.refusals.specs.Refusal.{Verdict}
 use Rattle.refusals.specs.Limits.{Within}
 use Rattle.refusals.specs.Refusal.{code_of, after}
 use Rattle.tables.specs.Words.{packed_rows}

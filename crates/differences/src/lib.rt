@@ -10,7 +10,6 @@ ghost use Rattle.tables.specs.Words.{Table, differences_of, coefficients_of};
 ghost use Rattle.tables.specs.Answers.{copy_verdict, differences_after, coefficients_after};
 
 use checks::check_copy;
-use refusals::Verdict;
 use tables::{put_entry, vector};
 use turns::{product_before, turn};
 
@@ -43,26 +42,26 @@ pub fn coefficients_into(from: &[u64], to: &mut [u64], n: usize)
 }
 
 // The table of differences of a coefficient table: `table` is written whole, or on a refusal left as it was.
-pub fn differences(n: u64, m: u64, coefficients: &[u64], table: &mut [u64]) -> Verdict
+pub fn differences(n: u64, m: u64, coefficients: &[u64], table: &mut [u64]) -> Result<(), Refusal>
     ensures answer { result ≡ copy_verdict n m coefficients.now table.old }
     ensures left { table.new ≡ differences_after n m coefficients.now table.old }
     ensures number { code_of result ≡ code_of (copy_verdict n m coefficients.now table.old) }
 {
     let verdict = check_copy(n, m, coefficients, table.len());
-    if let Verdict::Done = verdict {
+    if let Ok(()) = verdict {
         differences_into(coefficients, table, n as usize);
     }
     verdict
 }
 
 // The coefficients of a table of differences: `coefficients` is written whole, or on a refusal left as it was.
-pub fn coefficients(n: u64, m: u64, table: &[u64], coefficients: &mut [u64]) -> Verdict
+pub fn coefficients(n: u64, m: u64, table: &[u64], coefficients: &mut [u64]) -> Result<(), Refusal>
     ensures answer { result ≡ copy_verdict n m table.now coefficients.old }
     ensures left { coefficients.new ≡ coefficients_after n m table.now coefficients.old }
     ensures number { code_of result ≡ code_of (copy_verdict n m table.now coefficients.old) }
 {
     let judged = check_copy(n, m, table, coefficients.len());
-    if let Verdict::Done = judged {
+    if let Ok(()) = judged {
         coefficients_into(table, coefficients, n as usize);
     }
     judged

@@ -6,7 +6,7 @@ use Prim.Native.Nat.{ℕ, ◌+◌, ◌≤◌, ◌<◌}
 use native.Mathlib.Omega.{arith}
 use lib.ListN.{set, replicate}
 use Rattle.refusals.specs.declared.Refusal.TheVariants as why
-use Rattle.refusals.specs.declared.Verdict.{Verdict}
+use Rattle.refusals.specs.Refusal.{Verdict}
 use Rattle.graphs.specs.declared.Graph.{Graph}
 use Rattle.graphs.specs.Edges.{has_edge}
 use Rattle.graphs.specs.Reading.{vertices_most, lines_most, edges_most, on, stop, full_fault, carry}

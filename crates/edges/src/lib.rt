@@ -7,7 +7,7 @@ ghost use Rattle.graphs.specs.Reading.{vertices_most, lines_most, edges_most, fu
 ghost use Rattle.graphs.specs.Scans.{state_of, edges_of, cell_of, Kept, Fits, pair_state};
 
 use graphs::Graph;
-use refusals::{Refusal, Verdict};
+use refusals::Refusal;
 
 // A graph has at most so many different edges, one for each equation.
 const EDGES_MOST: u64 = 64;
@@ -15,7 +15,7 @@ const EDGES_MOST: u64 = 64;
 // The graph after one more line, or why the line is refused.
 #[derive(Drop)]
 pub struct Taken {
-    pub verdict: Verdict,
+    pub verdict: Result<(), Refusal>,
     pub graph: Graph,
 }
 
@@ -88,12 +88,12 @@ pub fn take_pair(g: Graph, seen: &mut [u8; 441], a: u64, b: u64) -> Taken
     if seen_at(seen, a, b) {
         let same = repeated(g);
         return Taken {
-            verdict: Verdict::Done,
+            verdict: Ok(()),
             graph: same,
         };
     }
     if g.count >= EDGES_MOST {
-        let full = Verdict::Refused(Refusal::Edges);
+        let full = Err(Refusal::Edges);
         return Taken {
             verdict: full,
             graph: g,
@@ -102,7 +102,7 @@ pub fn take_pair(g: Graph, seen: &mut [u8; 441], a: u64, b: u64) -> Taken
     note(seen, a, b);
     let more = joined(g, a, b);
     Taken {
-        verdict: Verdict::Done,
+        verdict: Ok(()),
         graph: more,
     }
 }

@@ -9,7 +9,7 @@ ghost use Rattle.graphs.specs.Reading.{text_most};
 ghost use Rattle.exchange.specs.Answers.{tidied, answer_of, out_after, Answers, Reads};
 
 use graphs::TEXT_MOST;
-use refusals::{Refusal, Verdict};
+use refusals::Refusal;
 use scans::read_lines;
 use tallies::count_lines;
 use texts::put;
@@ -85,7 +85,7 @@ pub fn tidy(text: &[u8], out: &mut [u8]) -> TidyAnswer
     let graph = s.graph;
     let seen = s.seen;
     match verdict {
-        Verdict::Refused(why) => TidyAnswer::Refused { why, line },
-        Verdict::Done => write_back(text, out, graph.vertices, graph.count, &seen),
+        Err(why) => TidyAnswer::Refused { why, line },
+        Ok(()) => write_back(text, out, graph.vertices, graph.count, &seen),
     }
 }

@@ -1,4 +1,5 @@
 -- The structs that hold a graph while it is read step as the states do.
+use Rattle.std.specs.Prelude.{Ok, Err}
 use mathlib.Core.Path.{◌≡◌, refl, sym, ap, ap₂, ◌∙◌}
 use mathlib.Core.Bool.{Bool, true, false}
 use mathlib.Core.List.{List, [], ◌∷◌, ◌++◌}
@@ -13,8 +14,7 @@ use lib.Seq.{get_or-set_same, get_or-set_other, get_or_at}
 use borrow.Author.Tests.{lt-ltb, le-ltb, ltb-false, leb-false, eqb-false}
 use Rattle.refusals.specs.declared.Refusal.{Refusal}
 use Rattle.refusals.specs.declared.Refusal.TheVariants as why
-use Rattle.refusals.specs.declared.Verdict.{Verdict}
-use Rattle.refusals.specs.declared.Verdict.TheVariants.{Done, Refused}
+use Rattle.refusals.specs.Refusal.{Verdict, done}
 use Rattle.refusals.proofs.RefusalLaw.{done_test, done_next}
 use Rattle.shapes.specs.declared.Shape.TheVariants.{Comment, Problem, Edge, Unknown}
 use Rattle.shapes.specs.Shapes.{shape_of}
@@ -125,7 +125,7 @@ pub record Declares (v e : ℕ) : Type 0 where
   pub e_least : 1 ≤ e
   pub e_most : e ≤ lines_most
 
-pub problem_fine : (v e : ℕ) → problem_fault v e ≡ Done → Declares v e
+pub problem_fine : (v e : ℕ) → problem_fault v e ≡ done → Declares v e
 problem_fine v e h =
     let h2 = done_next (ltb v 1) _ _ h in
     let h3 = done_next (ltb vertices_most v) _ _ h2 in
@@ -145,7 +145,7 @@ pub record Fitting (v e k a b : ℕ) : Type 0 where
   pub other_most : b ≤ v
   pub apart : a ≡ b → ⊥
 
-pub edge_fine : (v e k a b : ℕ) → edge_fault v e k a b ≡ Done → Fitting v e k a b
+pub edge_fine : (v e k a b : ℕ) → edge_fault v e k a b ≡ done → Fitting v e k a b
 edge_fine v e k a b h =
     let h2 = done_next (leb e k) _ _ h in
     let h3 = done_next (ltb a 1) _ _ h2 in
@@ -162,14 +162,14 @@ edge_fine v e k a b h =
     }
 
 -- a verdict that refuses nothing, and one that does
-pub done_is : (f : Verdict) → is_refused f ≡ false → f ≡ Done
-done_is Done e = refl
-done_is (Refused r) e = let z : ◌≡◌ {A = ℕ} 0 1 = cc in absurd (omega arith)
+pub done_is : (f : Verdict) → is_refused f ≡ false → f ≡ done
+done_is (Ok _) e = refl
+done_is (Err r) e = let z : ◌≡◌ {A = ℕ} 0 1 = cc in absurd (omega arith)
 
 pub refused_is : (f : Verdict) → is_refused f ≡ true → (s : State) (k : ℕ) (v : ℕ) (es : List Ends) (t : Turn) → carry f s ≡ t
     → (u : State) (l : List ℕ) (ls : List (List ℕ)) → t ≡ take_line u (shape_of l) → found_of f k v es ≡ read_lines k u (l ∷ ls)
-refused_is Done e s k v es t p u l ls q = let z : ◌≡◌ {A = ℕ} 0 1 = cc in absurd (omega arith)
-refused_is (Refused r) e s k v es t p u l ls q = sym (read_stop k u r l ls (sym (p ∙ q)))
+refused_is (Ok _) e s k v es t p u l ls q = let z : ◌≡◌ {A = ℕ} 0 1 = cc in absurd (omega arith)
+refused_is (Err r) e s k v es t p u l ls q = sym (read_stop k u r l ls (sym (p ∙ q)))
 
 -- ---- the states of the reader's own graphs
 pub state_start : {q : Bool} (v e k : ℕ) (es : List Ends) → q ≡ false → state_in q v e k es ≡ start

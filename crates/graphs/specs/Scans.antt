@@ -1,7 +1,6 @@
 -- What the structs that hold a graph while it is read stand for.
-use Rattle.std.specs.Prelude.{◌≡◌, Bool, true, false, List, [], ◌∷◌, ◌++◌, ℕ, zero, suc, ◌+◌, ◌*◌, ◌≤◌, ◌<◌, length, get_or}
-use Rattle.refusals.specs.declared.Verdict.{Verdict}
-use Rattle.refusals.specs.declared.Verdict.TheVariants.{Done, Refused}
+use Rattle.std.specs.Prelude.{◌≡◌, Bool, true, false, List, [], ◌∷◌, ◌++◌, ℕ, zero, suc, ◌+◌, ◌*◌, ◌≤◌, ◌<◌, length, get_or, Ok, Err}
+use Rattle.refusals.specs.Refusal.{Verdict}
 use Rattle.graphs.specs.declared.Graph.{Graph}
 use Rattle.graphs.specs.declared.Scan.{Scan}
 use Rattle.graphs.specs.Edges.{Ends, has_edge, take_once}
@@ -23,12 +22,12 @@ abbrev pub state_of : Graph → State
 state_of g = state_in g.known g.vertices g.edges g.lines (edges_of g)
 
 abbrev pub found_of : Verdict → ℕ → ℕ → List Ends → Outcome
-found_of Done k v es = graph v es
-found_of (Refused r) k v es = refused r k
+found_of (Ok _) k v es = graph v es
+found_of (Err r) k v es = refused r k
 
 abbrev pub is_refused : Verdict → Bool
-is_refused Done = false
-is_refused (Refused r) = true
+is_refused (Ok _) = false
+is_refused (Err r) = true
 
 abbrev pub scan_of : Scan → Outcome
 scan_of s = found_of s.verdict s.line s.graph.vertices (edges_of s.graph)

@@ -6,7 +6,7 @@ ghost use Rattle.std.specs.Prelude.{◌≡◌, ◌+◌, ◌≤◌};
 ghost use Rattle.graphs.specs.Reading.{text_most, problem_fault, edge_fault, end_of, number_at};
 ghost use Rattle.graphs.specs.Scans.{state_of, edges_of, found_of};
 
-use refusals::{Refusal, Verdict};
+use refusals::Refusal;
 
 // A text has at most so many bytes.
 pub const TEXT_MOST: usize = 32768;
@@ -32,70 +32,70 @@ pub struct Graph {
 // What the whole text gives: a refusal with its line, or the graph; and the flags of the edges so far.
 #[derive(Drop)]
 pub struct Scan {
-    pub verdict: Verdict,
+    pub verdict: Result<(), Refusal>,
     pub line: u64,
     pub graph: Graph,
     pub seen: [u8; 441],
 }
 
 // Why a p line with these numbers is refused, where it is the first.
-pub fn problem_fault(v: u64, e: u64) -> Verdict
+pub fn problem_fault(v: u64, e: u64) -> Result<(), Refusal>
     ensures { result ≡ problem_fault v e }
 {
     if v < 1 {
-        return Verdict::Refused(Refusal::Limits);
+        return Err(Refusal::Limits);
     }
     if v > VERTICES_MOST {
-        return Verdict::Refused(Refusal::Limits);
+        return Err(Refusal::Limits);
     }
     if e < 1 {
-        return Verdict::Refused(Refusal::Limits);
+        return Err(Refusal::Limits);
     }
     if e > LINES_MOST {
-        return Verdict::Refused(Refusal::Limits);
+        return Err(Refusal::Limits);
     }
-    Verdict::Done
+    Ok(())
 }
 
 // Why an e line is refused, after a p line with v and e and k e lines.
-pub fn edge_fault(v: u64, e: u64, k: u64, a: u64, b: u64) -> Verdict
+pub fn edge_fault(v: u64, e: u64, k: u64, a: u64, b: u64) -> Result<(), Refusal>
     ensures { result ≡ edge_fault v e k a b }
 {
     if e <= k {
-        return Verdict::Refused(Refusal::Count);
+        return Err(Refusal::Count);
     }
     if a < 1 {
-        return Verdict::Refused(Refusal::Vertex);
+        return Err(Refusal::Vertex);
     }
     if a > v {
-        return Verdict::Refused(Refusal::Vertex);
+        return Err(Refusal::Vertex);
     }
     if b < 1 {
-        return Verdict::Refused(Refusal::Vertex);
+        return Err(Refusal::Vertex);
     }
     if b > v {
-        return Verdict::Refused(Refusal::Vertex);
+        return Err(Refusal::Vertex);
     }
     if a == b {
-        return Verdict::Refused(Refusal::Vertex);
+        return Err(Refusal::Vertex);
     }
-    Verdict::Done
+    Ok(())
 }
 
 // Why a text is refused after its last line.
-pub fn end_fault(g: Graph) -> Verdict
+pub fn end_fault(g: Graph) -> Result<(), Refusal>
     ensures { found_of result 0 g.vertices (edges_of g) ≡ end_of (state_of g) }
 {
     if !g.known {
-        return Verdict::Refused(Refusal::Order);
+        return Err(Refusal::Order);
     }
     if g.lines < g.edges {
-        return Verdict::Refused(Refusal::Count);
+        return Err(Refusal::Count);
     }
     if g.edges < g.lines {
-        return Verdict::Refused(Refusal::Count);
+        return Err(Refusal::Count);
     }
-    Verdict::Done
+    Ok(())
 }
 
 // A refusal and its line in one number.

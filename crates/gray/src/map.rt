@@ -4,9 +4,9 @@ ghost use Rattle.refusals.specs.Limits.{most_unknowns};
 ghost use Rattle.gray.specs.Numbers.{point_of, place_of};
 ghost use Rattle.gray.specs.Answers.{convert_verdict, point_from, place_from, told, point_told, place_told};
 
-use crate::{Place, PlaceAnswer, Point, PointAnswer};
+use crate::{Place, Point};
 use positions::power;
-use refusals::{Refusal, Verdict, unknowns_fit};
+use refusals::{Refusal, unknowns_fit};
 
 // The point at a place below 3 to the n, for a caller that knows n to be at most 20: no test, and no division but by 3.
 pub fn point_at(n: u64, p: Place) -> Point
@@ -47,45 +47,45 @@ pub fn place_at(n: u64, x: Point) -> Place
 }
 
 // Whether place or point x of n unknowns is to be converted.
-pub fn convertible(n: u64, x: u64) -> Verdict
+pub fn convertible(n: u64, x: u64) -> Result<(), Refusal>
     ensures { result ≡ convert_verdict n x }
 {
     if !unknowns_fit(n) {
-        return Verdict::Refused(Refusal::Size);
+        return Err(Refusal::Size);
     }
     let end = power(n);
     if x >= end {
-        return Verdict::Refused(Refusal::Range);
+        return Err(Refusal::Range);
     }
-    Verdict::Done
+    Ok(())
 }
 
 // The point at a place of the walk over n unknowns.
-pub fn point_of(n: u64, p: Place) -> PointAnswer
+pub fn point_of(n: u64, p: Place) -> Result<Point, Refusal>
     ensures answer { result ≡ point_from (convert_verdict n p.0) (point_of 3 n p.0) }
     ensures number { point_told result ≡ told (convert_verdict n p.0) (point_of 3 n p.0) }
 {
     let verdict = convertible(n, p.0);
     match verdict {
-        Verdict::Refused(r) => PointAnswer::Refused(r),
-        Verdict::Done => {
+        Err(r) => Err(r),
+        Ok(()) => {
             let point = point_at(n, p);
-            PointAnswer::At(point)
+            Ok(point)
         }
     }
 }
 
 // The place of a point of n unknowns.
-pub fn place_of(n: u64, x: Point) -> PlaceAnswer
+pub fn place_of(n: u64, x: Point) -> Result<Place, Refusal>
     ensures answer { result ≡ place_from (convert_verdict n x.0) (place_of 3 n x.0) }
     ensures number { place_told result ≡ told (convert_verdict n x.0) (place_of 3 n x.0) }
 {
     let verdict = convertible(n, x.0);
     match verdict {
-        Verdict::Refused(r) => PlaceAnswer::Refused(r),
-        Verdict::Done => {
+        Err(r) => Err(r),
+        Ok(()) => {
             let place = place_at(n, x);
-            PlaceAnswer::At(place)
+            Ok(place)
         }
     }
 }

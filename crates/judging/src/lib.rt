@@ -13,7 +13,7 @@ use comparing::{same_first, same_seconds};
 use given::Degree;
 use gray::Place;
 use opening::First;
-use refusals::{Refusal, Verdict};
+use refusals::Refusal;
 
 // Whether a record is that of a checked table of degree 2 at its place.
 fn fits_two(n: u64, m: u64, table: &[u64], f: First) -> bool
@@ -69,20 +69,20 @@ fn judged_checked(
     seconds: &[u64],
     budget: u64,
     room: usize,
-) -> Verdict
+) -> Result<(), Refusal>
     requires { Checked (table_with degree n m table.now) × (length seconds.now ≡ lent_words degree) }
     ensures { result ≡ room_verdict (table_with degree n m table.now) (whole_of degree f seconds.now) budget room }
 {
     if !fits_table(degree, n, m, table, f, seconds) {
-        return Verdict::Refused(Refusal::Record);
+        return Err(Refusal::Record);
     }
     if budget == 0 {
-        return Verdict::Refused(Refusal::Budget);
+        return Err(Refusal::Budget);
     }
     if room == 0 {
-        return Verdict::Refused(Refusal::List);
+        return Err(Refusal::List);
     }
-    Verdict::Done
+    Ok(())
 }
 
 // All that a call is refused for, with a list of so many entries. Public for lists that are filled piece by piece, whose calls are judged once.
@@ -95,13 +95,13 @@ pub fn judged(
     seconds: &[u64],
     budget: u64,
     room: usize,
-) -> Verdict
+) -> Result<(), Refusal>
     requires { length seconds.now ≡ lent_words degree }
     ensures { result ≡ room_verdict (table_with degree n m table.now) (whole_of degree f seconds.now) budget room }
 {
     let verdict = given::check(degree, n, m, table);
     match verdict {
-        Verdict::Refused(x) => Verdict::Refused(x),
-        Verdict::Done => judged_checked(degree, n, m, table, f, seconds, budget, room),
+        Err(x) => Err(x),
+        Ok(()) => judged_checked(degree, n, m, table, f, seconds, budget, room),
     }
 }

@@ -15,8 +15,8 @@ ghost use Rattle.lists.specs.Pieces.{did_of, GoesOn};
 
 use given::Degree;
 use opening::{First, Record};
-use outcomes::{Answer, Moved, Outcome};
-use refusals::{PIECE_ENTRIES, Verdict};
+use outcomes::{Moved, Outcome};
+use refusals::{PIECE_ENTRIES, Refusal};
 use search::{first_for, joined, lent_words};
 use walks::{Report, Stop};
 
@@ -27,12 +27,12 @@ fn lesser(a: usize, b: usize) -> usize
 }
 
 // What a call did; where it was refused, nothing.
-fn did(a: Answer) -> Report
+fn did(a: Result<Report, Refusal>) -> Report
     ensures { result ≡ did_of a }
 {
     match a {
-        Answer::Ran(r) => r,
-        Answer::Refused(_) => Report {
+        Ok(r) => r,
+        Err(_) => Report {
             stop: Stop::Ended,
             points: 0,
             additions: 0,
@@ -119,7 +119,7 @@ fn filled(
             let stop = outcomes::stop_of(place, end, at, len);
             let points = budget - left;
             return Moved {
-                answer: Answer::Ran(Report {
+                answer: Ok(Report {
                     stop,
                     points,
                     additions,
@@ -148,11 +148,11 @@ pub fn search_parts(
 {
     let verdict = judging::judged(degree, n, m, table, f, seconds, budget, list.len() / 8);
     match verdict {
-        Verdict::Refused(x) => Moved {
-            answer: Answer::Refused(x),
+        Err(x) => Moved {
+            answer: Err(x),
             first: f,
         },
-        Verdict::Done => {
+        Ok(()) => {
             let mut words = [0u64; PIECE_ENTRIES];
             filled(degree, n, m, table, f, seconds, budget, &mut words, list)
         }

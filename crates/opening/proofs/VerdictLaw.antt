@@ -1,4 +1,5 @@
 -- What opening answers, by the verdict on the table.
+use Rattle.std.specs.Prelude.{Err}
 use mathlib.Core.Path.{◌≡◌, sym, ap, ◌∙◌}
 use mathlib.Core.Bool.{Bool}
 use Prim.Native.Nat.{ℕ, ◌^◌, ◌≤◌, ◌<◌}
@@ -6,9 +7,7 @@ use lib.Dec.{ltb}
 use borrow.Author.Tests.{lt-ltb, le-ltb}
 use Rattle.refusals.specs.declared.Refusal.{Refusal}
 use Rattle.refusals.specs.declared.Refusal.TheVariants as refusal
-use Rattle.refusals.specs.declared.Verdict.{Verdict}
-use Rattle.refusals.specs.declared.Verdict.TheVariants as verdict
-use Rattle.refusals.specs.Refusal.{refuse, after}
+use Rattle.refusals.specs.Refusal.{Verdict, refuse, after, done}
 use Rattle.given.specs.Given.{Given, table_verdict, Checked}
 use Rattle.given.proofs.TableLaw.{checked_next, refused_first}
 use Rattle.opening.specs.declared.Record.{Record}
@@ -20,19 +19,19 @@ module _ (g : Given) (p : ℕ) where
   abbrev with : Verdict → Opened
   with v = record { verdict = v; «record» = after v no_record (opened_at g p) }
 
-  pub open_refused : (f : Refusal) → table_verdict g verdict.Done ≡ verdict.Refused f → refused_open f ≡ open_of g p
-  open_refused f e = sym (ap with (refused_first g f (refuse (ltb (3 ^ g.n) p) refusal.Range verdict.Done) e))
+  pub open_refused : (f : Refusal) → table_verdict g done ≡ Err f → refused_open f ≡ open_of g p
+  open_refused f e = sym (ap with (refused_first g f (refuse (ltb (3 ^ g.n) p) refusal.Range done) e))
 
   -- a checked table is refused for its place alone
   module _ (ok : Checked g) where
-    place_left : open_verdict g p ≡ refuse (ltb (3 ^ g.n) p) refusal.Range verdict.Done
-    place_left = checked_next g (refuse (ltb (3 ^ g.n) p) refusal.Range verdict.Done) ok
+    place_left : open_verdict g p ≡ refuse (ltb (3 ^ g.n) p) refusal.Range done
+    place_left = checked_next g (refuse (ltb (3 ^ g.n) p) refusal.Range done) ok
 
     pub open_out : 3 ^ g.n < p → refused_open refusal.Range ≡ open_of g p
-    open_out h = sym (ap with (place_left ∙ ap (λ (b : Bool). refuse b refusal.Range verdict.Done) (lt-ltb (3 ^ g.n) p h)))
+    open_out h = sym (ap with (place_left ∙ ap (λ (b : Bool). refuse b refusal.Range done) (lt-ltb (3 ^ g.n) p h)))
 
-    pub verdict_done : p ≤ 3 ^ g.n → open_verdict g p ≡ verdict.Done
-    verdict_done h = place_left ∙ ap (λ (b : Bool). refuse b refusal.Range verdict.Done) (le-ltb (3 ^ g.n) p h)
+    pub verdict_done : p ≤ 3 ^ g.n → open_verdict g p ≡ done
+    verdict_done h = place_left ∙ ap (λ (b : Bool). refuse b refusal.Range done) (le-ltb (3 ^ g.n) p h)
 
-    pub open_done : (r : Record) → p ≤ 3 ^ g.n → r ≡ opened_at g p → record { verdict = verdict.Done; «record» = r } ≡ open_of g p
-    open_done r h o = ap (λ (r : Record). record { verdict = verdict.Done; «record» = r }) o ∙ sym (ap with (verdict_done h))
+    pub open_done : (r : Record) → p ≤ 3 ^ g.n → r ≡ opened_at g p → record { verdict = done; «record» = r } ≡ open_of g p
+    open_done r h o = ap (λ (r : Record). record { verdict = done; «record» = r }) o ∙ sym (ap with (verdict_done h))

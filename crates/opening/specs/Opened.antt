@@ -1,10 +1,8 @@
 -- The walk record of a table at a place: what given/specs/Slots says of it, and what opening answers.
-use Rattle.std.specs.Prelude.{ℕ, ◌-◌, ◌^◌, ltb, replicate}
+use Rattle.std.specs.Prelude.{ℕ, ◌-◌, ◌^◌, ltb, replicate, Err}
 use Rattle.refusals.specs.declared.Refusal.{Refusal}
 use Rattle.refusals.specs.declared.Refusal.TheVariants.{Range}
-use Rattle.refusals.specs.declared.Verdict.{Verdict}
-use Rattle.refusals.specs.declared.Verdict.TheVariants.{Done, Refused}
-use Rattle.refusals.specs.Refusal.{refuse, after}
+use Rattle.refusals.specs.Refusal.{Verdict, refuse, after, done}
 use Rattle.trits.specs.Trit.{none}
 use Rattle.given.specs.Given.{Given, table_verdict}
 use Rattle.given.specs.Slots.{value_at, slots_at, seconds_at}
@@ -22,11 +20,11 @@ no_record = record { n = 0; m = 0; place = record { 0 = 0 }; value = none; slots
 
 -- a refusal, which gives its number alone
 abbrev pub refused_open : Refusal → Opened
-refused_open f = record { verdict = Refused f; «record» = no_record }
+refused_open f = record { verdict = Err f; «record» = no_record }
 
 -- what opening answers
 abbrev pub open_verdict : Given → ℕ → Verdict
-open_verdict g p = table_verdict g (refuse (ltb (3 ^ g.n) p) Range Done)
+open_verdict g p = table_verdict g (refuse (ltb (3 ^ g.n) p) Range done)
 
 abbrev pub open_of : Given → ℕ → Opened
 open_of g p = record { verdict = open_verdict g p; «record» = after (open_verdict g p) no_record (opened_at g p) }

@@ -9,7 +9,7 @@ ghost use Rattle.given.specs.Given.{table_with, Checked};
 
 use given::Degree;
 use gray::Place;
-use refusals::{MOST_UNKNOWNS, Refusal, SECOND_WORDS, Verdict};
+use refusals::{MOST_UNKNOWNS, Refusal, SECOND_WORDS};
 use trits::Vector;
 
 mod parts;
@@ -41,7 +41,7 @@ pub struct First {
 // What opening gives: with a refusal the record is the one of zeros.
 #[derive(Drop)]
 pub struct Opened {
-    pub verdict: Verdict,
+    pub verdict: Result<(), Refusal>,
     pub record: Record,
 }
 
@@ -52,8 +52,8 @@ pub fn open(degree: Degree, n: u64, m: u64, table: &[u64], place: Place) -> Open
 {
     let verdict = given::check(degree, n, m, table);
     match verdict {
-        Verdict::Refused(f) => refused(f),
-        Verdict::Done => open_checked(degree, n, m, table, place.0),
+        Err(f) => refused(f),
+        Ok(()) => open_checked(degree, n, m, table, place.0),
     }
 }
 
@@ -67,7 +67,7 @@ fn open_checked(degree: Degree, n: u64, m: u64, table: &[u64], at: u64) -> Opene
     }
     let record = record_at(degree, n, m, table, at);
     Opened {
-        verdict: Verdict::Done,
+        verdict: Ok(()),
         record,
     }
 }
@@ -77,7 +77,7 @@ fn refused(f: Refusal) -> Opened
     ensures { result ≡ refused_open f }
 {
     Opened {
-        verdict: Verdict::Refused(f),
+        verdict: Err(f),
         record: no_record(),
     }
 }

@@ -7,9 +7,7 @@ use native.Mathlib.Omega.{arith}
 use lib.ListN.{length, take, drop}
 use lib.Seq.{take_at}
 use Rattle.refusals.specs.declared.Refusal.{Refusal}
-use Rattle.refusals.specs.declared.Verdict.{Verdict}
-use Rattle.refusals.specs.declared.Verdict.TheVariants as verdict
-use Rattle.refusals.specs.Refusal.{number_of, after}
+use Rattle.refusals.specs.Refusal.{Verdict, number_of, after, done}
 use Rattle.refusals.specs.Limits.{Within}
 use Rattle.tables.specs.Monomials.{count_of}
 use Rattle.tables.specs.Words.{words_of, differences_of}
@@ -46,7 +44,7 @@ module _ (n m : ℕ) (words old : List ℕ) (h : Startable n m words old) where
   limits : Within n m
   limits = record { least = h.least; most = h.most; one = h.some; wide = h.few }
 
-  copies : copy_verdict n m words old ≡ verdict.Done
+  copies : copy_verdict n m words old ≡ done
   copies = copy_into n m words old limits h.legal h.room
 
   -- the differences are written

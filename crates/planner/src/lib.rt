@@ -12,9 +12,9 @@ ghost use Rattle.planner.specs.Parts.{Refuses, Startable, Started, is_ended, Tel
 use given::Degree;
 use gray::Place;
 use opening::Record;
-use outcomes::Answer;
 use reader::ReadAnswer;
 use refusals::{MOST_UNKNOWNS, SECOND_WORDS};
+use trits::Vector;
 use walks::{Report, Stop};
 
 // Between two calls: the walk's record, what the calls so far did, and how many bytes of the text are to be written.
@@ -158,12 +158,12 @@ pub fn next(s: Session, table: &[u64], budget: u64, list: &mut [u64], text: &mut
     let answer = o.answer;
     let record = o.record;
     match answer {
-        Answer::Ran(report) => {
+        Ok(report) => {
             let k = report.found as usize;
             tell(s, record, report, &list[..k], text)
         }
         // No call on a session's own record is refused.
-        Answer::Refused(_) => Session {
+        Err(_) => Session {
             n: s.n,
             m: s.m,
             record,

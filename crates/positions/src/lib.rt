@@ -58,23 +58,16 @@ pub fn power(k: u64) -> u64
     r
 }
 
-// One of the positions of a number, or the answer that it has no more.
-#[derive(Drop)]
-pub enum PositionAnswer {
-    At(usize),
-    NoMore,
-}
-
 // Position k of p, counted from 0: the first of p, or one of those of p less 3 to the first.
-pub fn position(p: u64, k: u64) -> PositionAnswer
+pub fn position(p: u64, k: u64) -> Option<usize>
     ensures { result ≡ position_at (positions 3 p) k }
 {
     if p == 0 {
-        return PositionAnswer::NoMore;
+        return None;
     }
     let first = first_position(p);
     if k == 0 {
-        return PositionAnswer::At(first);
+        return Some(first);
     }
     let moved = power(first as u64);
     position(p - moved, k - 1)

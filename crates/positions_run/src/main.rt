@@ -3,8 +3,6 @@
 
 mod plain;
 
-use positions::PositionAnswer;
-
 // How much was compared, and how much of it differs.
 #[derive(Drop)]
 struct Tally {
@@ -31,10 +29,10 @@ fn compare(t: Tally, got: u64, wanted: u64) -> Tally {
 // A number that is no position: stands for the answer that there are no more.
 const NO_MORE: u64 = 1000000000000;
 
-fn position_told(a: PositionAnswer) -> u64 {
+fn position_told(a: Option<usize>) -> u64 {
     match a {
-        PositionAnswer::At(k) => k as u64,
-        PositionAnswer::NoMore => NO_MORE,
+        Some(k) => k as u64,
+        None => NO_MORE,
     }
 }
 

@@ -9,7 +9,7 @@ ghost use Rattle.reader.specs.Answers.{answer_of, words_after, read_told, outcom
 
 use equations::write;
 use graphs::TEXT_MOST;
-use refusals::{Refusal, Verdict};
+use refusals::Refusal;
 use scans::read_lines;
 
 // The reader is lent at least so many words: those of a table of 20 unknowns.
@@ -45,8 +45,8 @@ pub fn read(text: &[u8], words: &mut [u64]) -> ReadAnswer
     let line = s.line;
     let graph = s.graph;
     match verdict {
-        Verdict::Refused(why) => ReadAnswer::Refused { why, line },
-        Verdict::Done => {
+        Err(why) => ReadAnswer::Refused { why, line },
+        Ok(()) => {
             let n = graph.vertices;
             let m = graph.count;
             let used = tables::words(n);

@@ -8,8 +8,7 @@ use native.Mathlib.Omega.{arith}
 use lib.Dec.{ltb}
 use lib.ListN.{length, length-append}
 use borrow.Author.Tests.{ltb-true, le-ltb, lt-leb, ne_eqb}
-use Rattle.refusals.specs.declared.Verdict.{Verdict}
-use Rattle.refusals.specs.declared.Verdict.TheVariants.{Done}
+use Rattle.refusals.specs.Refusal.{Verdict, done}
 use Rattle.lines.specs.Lines.{lines_of}
 use Rattle.lines.proofs.SplitLaw.{lines_none}
 use Rattle.lines.proofs.ReturnLaw.{other_true}
@@ -127,7 +126,7 @@ taken v e j es a b g l n m =
     ∙ ap (λ (f : Verdict). carry f (declared v e (j + 1) (take_once es a b))) (full_room es a b m)
     ∙ ap (λ (xs : List Ends). on (declared v e (j + 1) xs)) (once_new es a b n)
   where
-    fits : 1 ≤ a → a ≤ v → 1 ≤ b → b ≤ v → (a ≡ b → ⊥) → edge_fault v e j a b ≡ Done
+    fits : 1 ≤ a → a ≤ v → 1 ≤ b → b ≤ v → (a ≡ b → ⊥) → edge_fault v e j a b ≡ done
     fits p q r s d = rw (lt-leb e j l, le-ltb a 1 p, le-ltb v a q, le-ltb b 1 r, le-ltb v b s, ne_eqb a b d)
 
 module _ (h : ℕ → ℕ → Bool) (v e : ℕ) (edged : (a b : ℕ) → h a b ≡ true → Edged v (record { one = a; other = b })) (few : e ≤ edges_most) where

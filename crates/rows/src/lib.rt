@@ -9,7 +9,7 @@ ghost use Rattle.tables.specs.Words.{entry, Written, packed_rows};
 ghost use Rattle.rows.specs.Parts.{RowPacked};
 ghost use Rattle.tables.specs.Answers.{rows_verdict, pack_verdict, pack_after};
 
-use refusals::{Refusal, Verdict, sizes_fit};
+use refusals::{Refusal, sizes_fit};
 use residues::remainder;
 use single_trits::with_trit;
 use tables::{count, put_entry, vector};
@@ -57,29 +57,29 @@ fn pack_rows(entries: usize, m: usize, rows: &[i8], table: &mut [u64])
 }
 
 // Signed rows, m times `entries` numbers, into a table of so many entries: `table` is written whole, or on a refusal left as it was.
-pub fn pack_entries(m: u64, entries: usize, rows: &[i8], table: &mut [u64]) -> Verdict
+pub fn pack_entries(m: u64, entries: usize, rows: &[i8], table: &mut [u64]) -> Result<(), Refusal>
     requires { (m ≤ most_equations) × (entries < 2 ^ 32) }
     ensures value { result ≡ rows_verdict entries m rows.now table.old }
     ensures left { table.new ≡ after (rows_verdict entries m rows.now table.old) table.old (packed_rows entries m rows.now) }
 {
     if rows.len() != (m as usize) * entries {
-        return Verdict::Refused(Refusal::Length);
+        return Err(Refusal::Length);
     }
     if table.len() != 2 * entries {
-        return Verdict::Refused(Refusal::Length);
+        return Err(Refusal::Length);
     }
     pack_rows(entries, m as usize, rows, table);
-    Verdict::Done
+    Ok(())
 }
 
 // The rows of a system of n unknowns: its sizes are asked first.
-pub fn pack(n: u64, m: u64, rows: &[i8], table: &mut [u64]) -> Verdict
+pub fn pack(n: u64, m: u64, rows: &[i8], table: &mut [u64]) -> Result<(), Refusal>
     ensures answer { result ≡ pack_verdict n m rows.now table.old }
     ensures left { table.new ≡ pack_after n m rows.now table.old }
     ensures number { code_of result ≡ code_of (pack_verdict n m rows.now table.old) }
 {
     if !sizes_fit(n, m) {
-        return Verdict::Refused(Refusal::Size);
+        return Err(Refusal::Size);
     }
     pack_entries(m, count(n as usize), rows, table)
 }

@@ -12,7 +12,7 @@ ghost use Rattle.graphs.specs.Scans.{state_of, scan_of, edges_of, is_refused, Se
 use edges::{Taken, take_pair};
 use graphs::{Graph, Scan, edge_fault, end_fault, problem_fault};
 use lines::find;
-use refusals::{Refusal, Verdict};
+use refusals::Refusal;
 use shapes::{Shape, shape_of};
 
 // A graph of no edges yet.
@@ -36,7 +36,7 @@ fn take_problem(g: Graph, seen: &[u8; 441], v: u64, e: u64) -> Taken
     ensures { (carry result.verdict (state_of result.graph) ≡ take_line (state_of g) (Problem v e)) × Kept result.graph seen.now }
 {
     if g.known {
-        let again = Verdict::Refused(Refusal::Order);
+        let again = Err(Refusal::Order);
         return Taken {
             verdict: again,
             graph: g,
@@ -44,14 +44,14 @@ fn take_problem(g: Graph, seen: &[u8; 441], v: u64, e: u64) -> Taken
     }
     let f = problem_fault(v, e);
     match f {
-        Verdict::Refused(w) => Taken {
-            verdict: Verdict::Refused(w),
+        Err(w) => Taken {
+            verdict: Err(w),
             graph: g,
         },
-        Verdict::Done => {
+        Ok(()) => {
             let h = fresh(true, v, e);
             Taken {
-                verdict: Verdict::Done,
+                verdict: Ok(()),
                 graph: h,
             }
         }
@@ -64,7 +64,7 @@ fn take_edge(g: Graph, seen: &mut [u8; 441], a: u64, b: u64) -> Taken
     ensures { (carry result.verdict (state_of result.graph) ≡ take_line (state_of g) (Edge a b)) × Kept result.graph seen.new }
 {
     if !g.known {
-        let early = Verdict::Refused(Refusal::Order);
+        let early = Err(Refusal::Order);
         return Taken {
             verdict: early,
             graph: g,
@@ -72,11 +72,11 @@ fn take_edge(g: Graph, seen: &mut [u8; 441], a: u64, b: u64) -> Taken
     }
     let f = edge_fault(g.vertices, g.edges, g.lines, a, b);
     match f {
-        Verdict::Refused(w) => Taken {
-            verdict: Verdict::Refused(w),
+        Err(w) => Taken {
+            verdict: Err(w),
             graph: g,
         },
-        Verdict::Done => take_pair(g, seen, a, b),
+        Ok(()) => take_pair(g, seen, a, b),
     }
 }
 
@@ -88,25 +88,25 @@ fn take_line(g: Graph, seen: &mut [u8; 441], line: &[u8]) -> Taken
     let s = shape_of(line);
     match s {
         Shape::Comment => Taken {
-            verdict: Verdict::Done,
+            verdict: Ok(()),
             graph: g,
         },
         Shape::Problem { vertices, edges } => take_problem(g, seen, vertices, edges),
         Shape::Edge { one, other } => take_edge(g, seen, one, other),
         Shape::Unknown => Taken {
-            verdict: Verdict::Refused(Refusal::Shape),
+            verdict: Err(Refusal::Shape),
             graph: g,
         },
     }
 }
 
 // Whether it is a refusal.
-fn refused(f: Verdict) -> bool
+fn refused(f: Result<(), Refusal>) -> bool
     ensures { result ≡ is_refused f }
 {
     match f {
-        Verdict::Done => false,
-        Verdict::Refused(_) => true,
+        Ok(()) => false,
+        Err(_) => true,
     }
 }
 

@@ -7,7 +7,7 @@ use comparing::no_seconds;
 use given::Degree;
 use gray::Place;
 use opening::{First, Record};
-use outcomes::{Answer, Moved, Outcome, n_for};
+use outcomes::{Moved, Outcome, n_for};
 use refusals::SECOND_WORDS;
 
 // How many words are lent for the second slots of a record.
@@ -44,8 +44,8 @@ pub fn joined(o: Moved, r: Record, seconds: [u64; SECOND_WORDS]) -> Outcome
 {
     let answer = o.answer;
     match answer {
-        Answer::Refused(_) => Outcome { answer, record: r },
-        Answer::Ran(_) => {
+        Err(_) => Outcome { answer, record: r },
+        Ok(_) => {
             let f = o.first;
             let value = f.value;
             let slots = f.slots;

@@ -2,9 +2,8 @@
 #![tactic(auto)]
 
 ghost use Rattle.std.specs.Prelude.{◌≡◌, ◌/◌, ◌≤◌, length};
-ghost use Rattle.refusals.specs.declared.Verdict.TheVariants.{Done};
 ghost use Rattle.refusals.specs.Limits.{most_unknowns, record_length};
-ghost use Rattle.refusals.specs.Refusal.{code_of, sized};
+ghost use Rattle.refusals.specs.Refusal.{code_of, sized, done};
 ghost use Rattle.codec.specs.Codec.{words_in};
 ghost use Rattle.given.specs.Given.{table_with};
 ghost use Rattle.opening.specs.First.{lent_words};
@@ -18,9 +17,7 @@ use answers::ANSWER_LENGTH;
 use given::Degree;
 use gray::Place;
 use opening::First;
-use refusals::{
-    MOST_CUBIC_WORDS, MOST_WORDS, RECORD_LENGTH, Refusal, SECOND_WORDS, Verdict, sizes_fit,
-};
+use refusals::{MOST_CUBIC_WORDS, MOST_WORDS, RECORD_LENGTH, Refusal, SECOND_WORDS, sizes_fit};
 
 // How many bytes a table of n unknowns has, of the degree that its own number of bytes tells.
 fn table_bytes(n: u64, table: usize) -> usize
@@ -35,26 +32,33 @@ fn table_bytes(n: u64, table: usize) -> usize
 }
 
 // Refusals 1 and 2 over all arguments, given how many bytes each has.
-fn shapes(n: u64, m: u64, table: usize, record: usize, list: usize, answer: usize) -> Verdict
-    ensures { result ≡ sized n m (shaped n table «record» list answer Done) }
+fn shapes(
+    n: u64,
+    m: u64,
+    table: usize,
+    record: usize,
+    list: usize,
+    answer: usize,
+) -> Result<(), Refusal>
+    ensures { result ≡ sized n m (shaped n table «record» list answer done) }
 {
     if !sizes_fit(n, m) {
-        return Verdict::Refused(Refusal::Size);
+        return Err(Refusal::Size);
     }
     let bytes = table_bytes(n, table);
     if table != bytes {
-        return Verdict::Refused(Refusal::Length);
+        return Err(Refusal::Length);
     }
     if record != RECORD_LENGTH {
-        return Verdict::Refused(Refusal::Length);
+        return Err(Refusal::Length);
     }
     if list % 8 != 0 {
-        return Verdict::Refused(Refusal::Length);
+        return Err(Refusal::Length);
     }
     if answer != ANSWER_LENGTH {
-        return Verdict::Refused(Refusal::Length);
+        return Err(Refusal::Length);
     }
-    Verdict::Done
+    Ok(())
 }
 
 // The degree in which a table of so many words is read with a record whose second slot (0, 0) has the words high and low.

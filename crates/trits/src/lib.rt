@@ -4,7 +4,7 @@
 
 ghost use Rattle.trits.specs.Words.{Added, Negated, Multiplied, Scaled, Tested, Judged};
 
-#[derive(Clone, Copy)]
+#[derive(Clone, Copy, PartialEq, Eq)]
 pub struct Vector {
     pub high: u64,
     pub low: u64,

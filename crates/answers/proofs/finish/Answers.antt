@@ -1,4 +1,5 @@
 -- `answers::finish` meets its contract: the two parts of a record, told whole, are the record.
+use Rattle.std.specs.Prelude.{Ok, Err}
 use mathlib.Core.Path.{◌≡◌, refl, ◌∙◌}
 use mathlib.Core.List.{List}
 use Prim.Native.Nat.{ℕ}
@@ -9,8 +10,7 @@ use Rattle.opening.specs.First.{first_of}
 use Rattle.opening.specs.contracts.Record as T
 use Rattle.opening.proofs.Record.TheLaws as T'
 use Rattle.opening.proofs.ShapeLaw.{seconds_long}
-use Rattle.outcomes.specs.declared.Answer.{Answer}
-use Rattle.outcomes.specs.declared.Answer.TheVariants.{Ran, Refused}
+use Rattle.outcomes.specs.Search.{Answer}
 use Rattle.wire.specs.Wire.{part_words}
 use Rattle.wire.proofs.WireLaw.{first_length, write_parts}
 use Rattle.answers.specs.Written.{record_bytes, parts_bytes}
@@ -25,5 +25,5 @@ returns c =
   where
     whole : (a : Answer) (r : Record) (b : List ℕ) → length b ≡ 3720 → length r.slots ≡ 20 → length r.seconds ≡ 420
         → parts_bytes a (first_of r) r.seconds b ≡ record_bytes a r b
-    whole (Ran x) r b e n l = write_parts b (part_words (first_of r)) r.seconds e (first_length (first_of r) n) l
-    whole (Refused x) r b e n l = refl
+    whole (Ok x) r b e n l = write_parts b (part_words (first_of r)) r.seconds e (first_length (first_of r) n) l
+    whole (Err x) r b e n l = refl

@@ -1,4 +1,5 @@
 -- `balanced::from_balanced` meets its contract: raised by the upper end the number is a natural one, turned by two.
+use Rattle.std.specs.Prelude.{Err}
 use Rattle.balanced.proofs.BalancedLaw.{half_is}
 use Rattle.balanced.proofs.SignLaw.{less_fits, low_test, high_test, sum_fits, sum_cast, sum_number}
 use mathlib.Core.Path.{◌≡◌, refl, ap, ◌∙◌}
@@ -7,10 +8,10 @@ use Prim.Native.Nat.{ℕ, ◌-◌, ◌/◌, ◌^◌, ◌≤◌}
 use native.Mathlib.Omega.{arith}
 use lib.IntN.{ℤ, pos, ◌+ℤ◌, ◌-ℤ◌, +ℤ_idr}
 use Rattle.refusals.specs.declared.Refusal.TheVariants.{Size, Range}
-use Rattle.refusals.specs.declared.Verdict.TheVariants as verdict
 use Rattle.balanced.specs.Balanced.{half_of, turned, unbalanced_of}
 use Rattle.gray.proofs.TurnLaw.{power_small, power_above}
 use Rattle.refusals.proofs.RefusalLaw.{said_no, unknowns_not}
+use Rattle.refusals.specs.Refusal.{done}
 use Rattle.gray.proofs.AnswerLaw.{point_meets}
 use Rattle.balanced.proofs.AnswerLaw.{ends_low, ends_high, ends_so}
 use Rattle.balanced.proofs.SignLaw.{raised}
@@ -24,7 +25,7 @@ half n w H k e f =
     (omega (arith, power_small n k), f ∙ +ℤ_idr (pos ((w - 1) / 2)) ∙ ap pos h)
 
 pub returns-then-not-unknowns_fit : goal.returns-then-not-unknowns_fit
-returns-then-not-unknowns_fit c = let all = point_meets (verdict.Refused Size) _ _ _ (unknowns_not _ _ (said_no _ c.unknowns_fit.ensures (not-true _ c.if-not-unknowns_fit.true-raw))) refl in record { answer = all.0; number = all.1 }
+returns-then-not-unknowns_fit c = let all = point_meets (Err Size) _ _ _ (unknowns_not _ _ (said_no _ c.unknowns_fit.ensures (not-true _ c.if-not-unknowns_fit.true-raw))) refl in record { answer = all.0; number = all.1 }
 
 pub overflow_sub-power : goal.overflow_sub-power
 overflow_sub-power c =
@@ -55,7 +56,7 @@ returns-then-y-half c =
     let w = c.unknowns_fit.ensures.0 (not-false _ c.if-not-unknowns_fit.false-raw) in
     let g = half a.n _ _ w.most (c.power.ensures.0 (omega (arith, w.most))) c.minus-half.ensures in
     let t = low_test a.y _ (half_of a.n) f g.0 g.1 true c.if-y-half.true in
-    let all = point_meets (verdict.Refused Range) _ _ _ (ends_low a.n a.y w t) refl in record { answer = all.0; number = all.1 }
+    let all = point_meets (Err Range) _ _ _ (ends_low a.n a.y w t) refl in record { answer = all.0; number = all.1 }
 
 pub returns-then-y-half-2 : goal.returns-then-y-half-2
 returns-then-y-half-2 c =
@@ -65,7 +66,7 @@ returns-then-y-half-2 c =
     let g = half a.n _ _ w.most (c.power.ensures.0 (omega (arith, w.most))) c.minus-half.ensures in
     let t = low_test a.y _ (half_of a.n) f g.0 g.1 false c.if-y-half.false in
     let u = high_test a.y _ (half_of a.n) f g.0 g.1 true c.if-y-half-2.true in
-    let all = point_meets (verdict.Refused Range) _ _ _ (ends_high a.n a.y w t u) refl in record { answer = all.0; number = all.1 }
+    let all = point_meets (Err Range) _ _ _ (ends_high a.n a.y w t u) refl in record { answer = all.0; number = all.1 }
 
 pub overflow_add-raised : goal.overflow_add-raised
 overflow_add-raised c =
@@ -102,4 +103,4 @@ returns c =
     let t = low_test a.y _ (half_of a.n) f g.0 g.1 false c.if-y-half.false in
     let u = high_test a.y _ (half_of a.n) f g.0 g.1 false c.if-y-half-2.false in
     let s = sum_number a.y _ (half_of a.n) f g.0 g.1 (raised a.y (half_of a.n) t u) in
-    let all = point_meets verdict.Done _ _ _ (ends_so a.n a.y w t u) (c.turn-point.ensures ∙ ap (turned 2 a.n) s) in record { answer = all.0; number = all.1 }
+    let all = point_meets done _ _ _ (ends_so a.n a.y w t u) (c.turn-point.ensures ∙ ap (turned 2 a.n) s) in record { answer = all.0; number = all.1 }

@@ -2,7 +2,7 @@
 use mathlib.Core.Path.{sym, ap}
 use native.Mathlib.Omega.{arith}
 use borrow.Author.Tests.{not-true, not-false}
-use Rattle.refusals.specs.declared.Verdict.{Verdict}
+use Rattle.refusals.specs.Refusal.{Verdict}
 use Rattle.refusals.specs.Refusal.{code_of, after}
 use Rattle.refusals.proofs.RefusalLaw.{said_no, sized_not}
 use Rattle.cubic_tables.specs.Words.{cubic_packed}

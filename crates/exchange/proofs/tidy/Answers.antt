@@ -3,7 +3,7 @@ use mathlib.Core.Path.{sym, ap, ◌∙◌}
 use native.Mathlib.Omega.{arith}
 use lib.ListN.{length}
 use Rattle.refusals.specs.declared.Refusal.TheVariants as why
-use Rattle.refusals.specs.declared.Verdict.{Verdict}
+use Rattle.refusals.specs.Refusal.{Verdict}
 use Rattle.graphs.specs.Reading.{words_least}
 use Rattle.graphs.specs.Scans.{edges_of, found_of}
 use Rattle.graphs.proofs.ReadLaw.{length_ends, outcome_lines}
@@ -28,14 +28,14 @@ write_back-requires c =
       l,
       record {
         edges = edges_of g;
-        is = outcome_lines t words_least l (omega arith) ∙ sym r.ensures.0 ∙ ap (λ (f : Verdict). found_of f s.line g.vertices (edges_of g)) c.in-Done.is;
+        is = outcome_lines t words_least l (omega arith) ∙ sym r.ensures.0 ∙ ap (λ (f : Verdict). found_of f s.line g.vertices (edges_of g)) c.in-Ok.is;
         count = length_ends g.count g.one g.other;
         seen = r.ensures.1;
       },
     )
 
-pub returns-in-Refused : goal.returns-in-Refused
-returns-in-Refused c =
+pub returns-in-Err : goal.returns-in-Err
+returns-in-Err c =
     let a = c.args in
     let t = a.text.now in
     let old = a.out.now in
@@ -44,4 +44,4 @@ returns-in-Refused c =
     let g = s.graph in
     answers_refused t (tidied t (length old)) old _ s.line
     (tidied_refused t (length old) _ s.line
-    (outcome_lines t words_least c.if-text-gt-TEXT_MOST.false (omega arith) ∙ sym r.ensures.0 ∙ ap (λ (f : Verdict). found_of f s.line g.vertices (edges_of g)) c.in-Refused.is))
+    (outcome_lines t words_least c.if-text-gt-TEXT_MOST.false (omega arith) ∙ sym r.ensures.0 ∙ ap (λ (f : Verdict). found_of f s.line g.vertices (edges_of g)) c.in-Err.is))

@@ -3,5 +3,5 @@ use mathlib.Core.Path.{sym, ap}
 use Rattle.lists.specs.Pieces.{did_of}
 use Rattle.lists.proofs.did.Goals as goal
 
-pub returns-in-Refused : goal.returns-in-Refused
-returns-in-Refused c = sym (ap did_of c.in-Refused.is)
+pub returns-in-Err : goal.returns-in-Err
+returns-in-Err c = sym (ap did_of c.in-Err.is)

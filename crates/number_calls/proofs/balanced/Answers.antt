@@ -2,7 +2,7 @@
 use mathlib.Core.List.{[], ◌∷◌}
 use lib.ListN.{length}
 use Rattle.gray.specs.Answers.{convert_verdict}
-use Rattle.balanced.specs.declared.BalancedAnswer.{BalancedAnswer}
+use Rattle.balanced.specs.Answers.{BalancedAnswer}
 use Rattle.balanced.specs.Balanced.{balanced_of}
 use Rattle.balanced.specs.Answers.{balanced_told}
 use Rattle.lent.specs.Lent.{single, balanced_put}

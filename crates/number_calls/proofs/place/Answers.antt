@@ -1,7 +1,7 @@
 -- `number_calls::place` meets its contract: the room is refused, or the answer says all.
 use mathlib.Core.List.{[], ◌∷◌}
 use lib.ListN.{length}
-use Rattle.gray.specs.declared.PlaceAnswer.{PlaceAnswer}
+use Rattle.gray.specs.Answers.{PlaceAnswer}
 use Rattle.gray.specs.Numbers.{place_of}
 use Rattle.gray.specs.Answers.{convert_verdict, place_told}
 use Rattle.lent.specs.Lent.{single, place_put}

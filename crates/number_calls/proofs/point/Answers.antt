@@ -1,7 +1,7 @@
 -- `number_calls::point` meets its contract: the room is refused, or the answer says all.
 use mathlib.Core.List.{[], ◌∷◌}
 use lib.ListN.{length}
-use Rattle.gray.specs.declared.PointAnswer.{PointAnswer}
+use Rattle.gray.specs.Answers.{PointAnswer}
 use Rattle.gray.specs.Numbers.{point_of}
 use Rattle.gray.specs.Answers.{convert_verdict, point_told}
 use Rattle.lent.specs.Lent.{single, point_put}

@@ -5,7 +5,7 @@ use lib.IntN.{ℤ}
 use mir.Syntax.{w64}
 use mir.ValLaws.{to_z-of_z}
 use lib.ListN.{length}
-use Rattle.gray.specs.declared.PointAnswer.{PointAnswer}
+use Rattle.gray.specs.Answers.{PointAnswer}
 use Rattle.gray.specs.Answers.{point_from, point_told}
 use Rattle.balanced.specs.Balanced.{unbalanced_of}
 use Rattle.balanced.specs.Answers.{balanced_verdict}

@@ -33,12 +33,12 @@ start-requires c =
       omega (arith, c.requires.2),
     )
 
-pub returns-in-Refused : goal.returns-in-Refused
-returns-in-Refused c =
+pub returns-in-Err : goal.returns-in-Err
+returns-in-Err c =
     let r = c.read-answer in
     let x = c.args.input.now in
     begun_refused x _ c.refused.new.text _ _ _ c.refused.result
-    (sym c.in-Refused.is ∙ r.ensures.0 ∙ ap (λ (w : ℕ). answer_of (outcome_of x w)) c.requires.0)
+    (sym c.in-Err.is ∙ r.ensures.0 ∙ ap (λ (w : ℕ). answer_of (outcome_of x w)) c.requires.0)
     c.number-number.ensures.0 c.refused.ensures
 
 pub returns-in-Graph : goal.returns-in-Graph

@@ -4,7 +4,7 @@ use native.Mathlib.Omega.{arith}
 use lib.ListN.{length}
 use lib.Seq.{length-take-le}
 use Rattle.refusals.specs.declared.Refusal.TheVariants as why
-use Rattle.refusals.specs.declared.Verdict.{Verdict}
+use Rattle.refusals.specs.Refusal.{Verdict}
 use Rattle.graphs.specs.Reading.{outcome_of}
 use Rattle.graphs.specs.Scans.{edges_of, found_of}
 use Rattle.graphs.proofs.ReadLaw.{length_ends, outcome_long, outcome_words, outcome_lines}
@@ -29,31 +29,31 @@ returns-then-words-lt-WORDS_LEAST c =
 pub words-used-requires : goal.words-used-requires
 words-used-requires c =
     let s = c.read_lines-s.result in
-    let d = found_drawn c.args.text.now s.verdict s.line s.graph.vertices (edges_of s.graph) c.read_lines-s.ensures.0 c.in-Done.is in
+    let d = found_drawn c.args.text.now s.verdict s.line s.graph.vertices (edges_of s.graph) c.read_lines-s.ensures.0 c.in-Ok.is in
     (d.least, d.most)
 
-pub slice_bounds-write-end-in-Done : goal.slice_bounds-write-end-in-Done
-slice_bounds-write-end-in-Done c = sym (length-take-le c.words-used.result c.args.words.now (omega (arith, c.words-used.ensures.1, c.if-words-lt-WORDS_LEAST.false)))
+pub slice_bounds-write-end-in-Ok : goal.slice_bounds-write-end-in-Ok
+slice_bounds-write-end-in-Ok c = sym (length-take-le c.words-used.result c.args.words.now (omega (arith, c.words-used.ensures.1, c.if-words-lt-WORDS_LEAST.false)))
 
 pub write-requires : goal.write-requires
 write-requires c =
     let s = c.read_lines-s.result in
-    let d = found_drawn c.args.text.now s.verdict s.line s.graph.vertices (edges_of s.graph) c.read_lines-s.ensures.0 c.in-Done.is in
+    let d = found_drawn c.args.text.now s.verdict s.line s.graph.vertices (edges_of s.graph) c.read_lines-s.ensures.0 c.in-Ok.is in
     (length-take-le c.words-used.result c.args.words.now (omega (arith, c.words-used.ensures.1, c.if-words-lt-WORDS_LEAST.false)) ∙ c.words-used.ensures.0, d)
 
-pub returns-in-Refused : goal.returns-in-Refused
-returns-in-Refused c =
+pub returns-in-Err : goal.returns-in-Err
+returns-in-Err c =
     let a = c.args in
     let t = a.text.now in
     let w = a.words.now in
     let s = c.read_lines-s.result in
-    answer_refused (outcome_of t (length w)) _ s.line w (outcome_lines t (length w) c.if-text-gt-TEXT_MOST.false c.if-words-lt-WORDS_LEAST.false ∙ sym c.read_lines-s.ensures.0 ∙ ap (λ (f : Verdict). found_of f s.line s.graph.vertices (edges_of s.graph)) c.in-Refused.is)
+    answer_refused (outcome_of t (length w)) _ s.line w (outcome_lines t (length w) c.if-text-gt-TEXT_MOST.false c.if-words-lt-WORDS_LEAST.false ∙ sym c.read_lines-s.ensures.0 ∙ ap (λ (f : Verdict). found_of f s.line s.graph.vertices (edges_of s.graph)) c.in-Err.is)
 
-pub returns-in-Done : goal.returns-in-Done
-returns-in-Done c =
+pub returns-in-Ok : goal.returns-in-Ok
+returns-in-Ok c =
     let a = c.args in
     let t = a.text.now in
     let w = a.words.now in
     let s = c.read_lines-s.result in
     let g = s.graph in
-    answer_graph (outcome_of t (length w)) g.vertices g.count c.words-used.result (edges_of g) c.write.new.table w (outcome_lines t (length w) c.if-text-gt-TEXT_MOST.false c.if-words-lt-WORDS_LEAST.false ∙ sym c.read_lines-s.ensures.0 ∙ ap (λ (f : Verdict). found_of f s.line g.vertices (edges_of g)) c.in-Done.is) (length_ends g.count g.one g.other) c.write.ensures c.words-used.ensures.0
+    answer_graph (outcome_of t (length w)) g.vertices g.count c.words-used.result (edges_of g) c.write.new.table w (outcome_lines t (length w) c.if-text-gt-TEXT_MOST.false c.if-words-lt-WORDS_LEAST.false ∙ sym c.read_lines-s.ensures.0 ∙ ap (λ (f : Verdict). found_of f s.line g.vertices (edges_of g)) c.in-Ok.is) (length_ends g.count g.one g.other) c.write.ensures c.words-used.ensures.0

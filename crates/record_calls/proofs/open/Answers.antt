@@ -1,9 +1,7 @@
 -- `record_calls::open` meets its contract: the room is refused, then what opening refuses, or the record is written.
 use mathlib.Core.Path.{◌≡◌, sym, ap, ◌∙◌}
 use lib.ListN.{length}
-use Rattle.refusals.specs.declared.Verdict.{Verdict}
-use Rattle.refusals.specs.declared.Verdict.TheVariants.{Done}
-use Rattle.refusals.specs.Refusal.{code_of, after}
+use Rattle.refusals.specs.Refusal.{Verdict, code_of, after, done}
 use Rattle.given.specs.declared.Degree.{Degree}
 use Rattle.given.specs.Given.{table_with, table_told}
 use Rattle.opening.specs.declared.Opened.{Opened}
@@ -46,7 +44,7 @@ returns c =
     let o = c.open-o.ensures.value
     ∙ ap (λ (d : Degree). open_of (table_with d a.n a.m a.table.now) a.place) c.degree_of-degree.ensures in
     let e = c.code-number.ensures ∙ ap (λ (z : Opened). code_of z.verdict) o in
-    let d : u ≡ Done = code_zero u (sym e ∙ c.if-number-ne0.false) in
+    let d : u ≡ done = code_zero u (sym e ∙ c.if-number-ne0.false) in
     let r = ap (λ (z : Opened). record_words z.«record») o ∙ ap (λ (v : Verdict). record_words (after v no_record x)) d in
     moved (room a.n a.m (length l) 465 u) u (h.1 u) _ _ l (record_words x)
     (sym (ap code_of d), c.put_record.ensures ∙ r ∙ sym (ap (λ (v : Verdict). after v l (record_words x)) d))

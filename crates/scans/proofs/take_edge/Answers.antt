@@ -15,21 +15,21 @@ pub take_pair-requires : goal.take_pair-requires
 take_pair-requires c =
     let a = c.args in
     let g = a.g in
-    let f = edge_fine g.vertices g.edges g.lines a.a a.b (sym c.edge_fault-f.ensures ∙ c.in-Done.is) in (
+    let f = edge_fine g.vertices g.edges g.lines a.a a.b (sym c.edge_fault-f.ensures ∙ c.in-Ok.is) in (
       c.requires,
       record { known = not-false g.known c.if-not-g.false; room = f.room; one_most = f.one_most; other_most = f.other_most },
     )
 
-pub returns-in-Refused : goal.returns-in-Refused
-returns-in-Refused c =
+pub returns-in-Err : goal.returns-in-Err
+returns-in-Err c =
     let a = c.args in
     let g = a.g in
-    let w = sym c.edge_fault-f.ensures ∙ c.in-Refused.is in
+    let w = sym c.edge_fault-f.ensures ∙ c.in-Err.is in
     (later_edge g.vertices g.edges g.lines (edges_of g) (not-false g.known c.if-not-g.false) a.a a.b w, c.requires)
 
-pub returns-in-Done : goal.returns-in-Done
-returns-in-Done c =
+pub returns-in-Ok : goal.returns-in-Ok
+returns-in-Ok c =
     let a = c.args in
     let g = a.g in
-    let w = sym c.edge_fault-f.ensures ∙ c.in-Done.is in
+    let w = sym c.edge_fault-f.ensures ∙ c.in-Ok.is in
     (c.take_pair.ensures.0 ∙ later_edge g.vertices g.edges g.lines (edges_of g) (not-false g.known c.if-not-g.false) a.a a.b w, c.take_pair.ensures.1)

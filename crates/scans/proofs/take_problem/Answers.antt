@@ -13,17 +13,17 @@ returns-then-g c =
     let g = a.g in
     (second_problem g.vertices g.edges g.lines (edges_of g) c.if-g.true a.v a.e, c.requires)
 
-pub returns-in-Refused : goal.returns-in-Refused
-returns-in-Refused c =
+pub returns-in-Err : goal.returns-in-Err
+returns-in-Err c =
     let a = c.args in
     let g = a.g in
-    (first_problem g.vertices g.edges g.lines (edges_of g) c.if-g.false a.v a.e (sym c.problem_fault-f.ensures ∙ c.in-Refused.is), c.requires)
+    (first_problem g.vertices g.edges g.lines (edges_of g) c.if-g.false a.v a.e (sym c.problem_fault-f.ensures ∙ c.in-Err.is), c.requires)
 
-pub returns-in-Done : goal.returns-in-Done
-returns-in-Done c =
+pub returns-in-Ok : goal.returns-in-Ok
+returns-in-Ok c =
     let a = c.args in
     let g = a.g in
     let r = c.fresh-h.result in
     let e = c.fresh-h.ensures in
-    let f = sym c.problem_fault-f.ensures ∙ c.in-Done.is in
+    let f = sym c.problem_fault-f.ensures ∙ c.in-Ok.is in
     (ap on (state_is e.0 e.1 e.2 e.3 (ends_none r.count r.one r.other e.4)) ∙ first_problem g.vertices g.edges g.lines (edges_of g) c.if-g.false a.v a.e f, kept_fresh g r a.seen.now c.requires c.if-g.false (omega (arith, (problem_fine a.v a.e f).v_most, e.1)) (omega (arith, (problem_fine a.v a.e f).e_most, e.2)) e.4)

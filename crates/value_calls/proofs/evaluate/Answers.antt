@@ -1,7 +1,7 @@
 -- `value_calls::evaluate` meets its contract: the room is refused, or the answer says all.
 use mathlib.Core.Path.{ap, ◌∙◌}
 use lib.ListN.{length}
-use Rattle.tables.specs.declared.Evaluated.{Evaluated}
+use Rattle.tables.specs.Answers.{Evaluated}
 use Rattle.tables.specs.Answers.{evaluated_code}
 use Rattle.given.specs.declared.Degree.{Degree}
 use Rattle.given.specs.Given.{degree_told}
