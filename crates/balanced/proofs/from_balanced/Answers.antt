@@ -88,8 +88,8 @@ overflow_cast-raised c =
     let u = high_test a.y _ (half_of a.n) f g.0 g.1 false c.if-y-half-2.false in
     sum_cast a.y _ (half_of a.n) f g.0 g.1 (raised a.y (half_of a.n) t u)
 
-pub turn-point-requires : goal.turn-point-requires
-turn-point-requires c =
+pub turn-requires : goal.turn-requires
+turn-requires c =
     let w = c.unknowns_fit.ensures.0 (not-false _ c.if-not-unknowns_fit.false-raw) in
     (omega arith, w.most)
 
@@ -103,4 +103,4 @@ returns c =
     let t = low_test a.y _ (half_of a.n) f g.0 g.1 false c.if-y-half.false in
     let u = high_test a.y _ (half_of a.n) f g.0 g.1 false c.if-y-half-2.false in
     let s = sum_number a.y _ (half_of a.n) f g.0 g.1 (raised a.y (half_of a.n) t u) in
-    let all = point_meets done _ _ _ (ends_so a.n a.y w t u) (c.turn-point.ensures ∙ ap (turned 2 a.n) s) in record { answer = all.0; number = all.1 }
+    let all = point_meets done _ _ _ (ends_so a.n a.y w t u) (c.turn.ensures ∙ ap (turned 2 a.n) s) in record { answer = all.0; number = all.1 }
