@@ -18,7 +18,7 @@ pub fn product_before(table: &[u64], n: usize, i: usize) -> Vector
     ensures { result ≡ before_of n table.now i }
 {
     if i == 0 {
-        return Vector { high: 0, low: 0 };
+        return Vector::ZERO;
     }
     entry(table, n, i - 1, i)
 }

@@ -1,11 +1,10 @@
 -- `balanced::to_balanced` meets its contract: the point turned by one, less the upper end.
-use Rattle.std.specs.Prelude.{Err}
-use mathlib.Core.Path.{refl, sym, ap₂, ◌∙◌}
+use mathlib.Core.Path.{sym, ap₂, ◌∙◌}
 use Rattle.refusals.specs.Refusal.{done}
 use Prim.Native.Nat.{ℕ, ◌-◌, ◌/◌}
 use native.Mathlib.Omega.{arith}
 use lib.IntN.{pos, ◌-ℤ◌}
-use Rattle.gray.proofs.TurnLaw.{power_small, power_above}
+use Rattle.gray.proofs.TurnLaw.{power_small}
 use Rattle.balanced.proofs.TurnLaw.{turned_word}
 use Rattle.gray.proofs.AnswerLaw.{done_so}
 use Rattle.balanced.proofs.AnswerLaw.{balanced_meets}

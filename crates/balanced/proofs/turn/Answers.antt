@@ -3,7 +3,7 @@ use mathlib.Core.Path.{◌≡◌, sym, ap, ◌∙◌}
 use Prim.Native.Nat.{ℕ, ◌+◌, ◌-◌, ◌/◌, ◌^◌, ◌≤◌, ◌<◌}
 use native.Mathlib.Omega.{arith}
 use Rattle.balanced.specs.Balanced.{turned}
-use Rattle.gray.proofs.TurnLaw.{power_above, weight_next, part_next, part_last}
+use Rattle.gray.proofs.TurnLaw.{power_above, weight_next, part_next}
 use Rattle.balanced.proofs.TurnLaw.{turned_turn, turned_small, turned_none}
 use Rattle.balanced.proofs.turn.Goals as goal
 
@@ -27,9 +27,6 @@ nonzero_div-number c =
     let b : l.counter < n = omega arith in
     omega (arith, weight_next n l.counter l.weight b l.invariant.0, power_above (n - (l.counter + 1)))
 
-pub overflow_add-number : goal.overflow_add-number
-overflow_add-number c = omega arith
-
 pub overflow_add-number-in-loop : goal.overflow_add-number-in-loop
 overflow_add-number-in-loop c =
     let l = c.loop in
@@ -46,10 +43,3 @@ loop-preserved c =
       weight_next a.n l.counter l.weight b l.invariant.0,
       turned_turn a.a l.counter (a.x / (l.weight / 3)) l.number (l.invariant.1 ∙ ap (turned a.a l.counter) (sym e)),
     )
-
-pub returns : goal.returns
-returns c =
-    let l = c.loop in
-    let a = c.args in
-    let e : l.counter ≡ a.n = omega arith in
-    l.invariant.1 ∙ ap (turned a.a l.counter) (part_last a.n l.counter l.weight a.x (omega arith) l.invariant.0) ∙ ap (λ (k : ℕ). turned a.a k a.x) e

@@ -1,5 +1,5 @@
 use mathlib.Core.Path.{◌≡◌}
-use Prim.Native.Nat.{◌-◌, ◌/◌, ◌^◌, ◌≤◌}
+use Prim.Native.Nat.{◌-◌, ◌/◌, ◌^◌}
 use Rattle.balanced.specs.Balanced.{turned}
 use Rattle.balanced.proofs.turn.Given as goal
 

@@ -3,16 +3,12 @@ use mathlib.Core.Path.{◌≡◌, ap, ◌∙◌}
 use Prim.Native.Nat.{ℕ, ◌+◌, ◌-◌, ◌/◌, ◌%◌, ◌^◌}
 use native.Mathlib.Omega.{arith}
 use native.Mathlib.Nat.{one-le-pow}
-use borrow.Author.Rules.{rules}
 use Rattle.gray.specs.Numbers.{point_digit}
-use Rattle.gray.proofs.RestLaw.{rest_next, digit_here, stored_none, stored_next}
+use Rattle.gray.proofs.RestLaw.{rest_next, digit_here, stored_next}
 use Rattle.gray.proofs.digits.digits_at.Goals as goal
 
 pub nonzero_div-rest : goal.nonzero_div-rest
 nonzero_div-rest c = omega (arith, c.requires.2, one-le-pow c.args.from 3 (omega arith))
-
-pub loop-k-init : goal.loop-k-init
-loop-k-init c = λ p e. (e, stored_none (point_digit 3 p) _ _ (omega arith))
 
 pub loop-k-preserved : goal.loop-k-preserved
 loop-k-preserved c =

@@ -1,5 +1,5 @@
 use mathlib.Core.Path.{◌≡◌}
-use Prim.Native.Nat.{ℕ, ◌-◌, ◌/◌, ◌^◌, ◌≤◌}
+use Prim.Native.Nat.{ℕ, ◌/◌, ◌^◌}
 use Rattle.gray.specs.Numbers.{point_digit}
 use Rattle.gray.proofs.RestLaw.{Stored}
 use Rattle.gray.proofs.digits.digits_at.Given as goal

@@ -3,7 +3,7 @@ use mathlib.Core.Path.{◌≡◌, sym, ap, ◌∙◌}
 use Prim.Native.Nat.{ℕ, ◌+◌, ◌-◌, ◌/◌, ◌^◌, ◌≤◌, ◌<◌}
 use native.Mathlib.Omega.{arith}
 use Rattle.gray.specs.Numbers.{place_of}
-use Rattle.gray.proofs.TurnLaw.{power_above, weight_next, part_next, part_last, place_turn, place_small, place_none}
+use Rattle.gray.proofs.TurnLaw.{power_above, weight_next, part_next, place_turn, place_small, place_none}
 use Rattle.gray.proofs.map.place_at.Goals as goal
 
 none : (n : ℕ) → n ≡ n - 0
@@ -47,11 +47,3 @@ loop-preserved c =
       weight_next n l.counter l.weight b l.invariant.0,
       place_turn l.counter (x / (l.weight / 3)) l.place (l.invariant.1 ∙ ap (place_of 3 l.counter) (sym e)),
     )
-
-pub returns : goal.returns
-returns c =
-    let l = c.loop in
-    let n = c.args.n in
-    let x = c.args.x.0 in
-    let e : l.counter ≡ n = omega arith in
-    l.invariant.1 ∙ ap (place_of 3 l.counter) (part_last n l.counter l.weight x (omega arith) l.invariant.0) ∙ ap (λ (k : ℕ). place_of 3 k x) e

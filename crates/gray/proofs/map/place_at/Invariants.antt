@@ -1,5 +1,5 @@
 use mathlib.Core.Path.{◌≡◌}
-use Prim.Native.Nat.{◌-◌, ◌/◌, ◌^◌, ◌≤◌}
+use Prim.Native.Nat.{◌-◌, ◌/◌, ◌^◌}
 use Rattle.gray.specs.Numbers.{place_of}
 use Rattle.gray.proofs.map.place_at.Given as goal
 

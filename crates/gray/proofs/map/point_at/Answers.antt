@@ -1,10 +1,9 @@
 -- `gray::map::point_at` meets its contract: what is done and what remains make up the point.
-use mathlib.Core.Path.{◌≡◌, refl, sym, ap, ◌∙◌}
+use mathlib.Core.Path.{◌≡◌, sym, ap, ◌∙◌}
 use Prim.Native.Nat.{ℕ, ◌+◌, ◌-◌, ◌*◌, ◌/◌, ◌%◌, ◌^◌, ◌<◌}
 use native.Mathlib.Nat.{pow-suc}
 use native.Mathlib.Numerals.{add-one}
 use native.Mathlib.Omega.{arith}
-use Rattle.gray.specs.Numbers.{point_of}
 use Rattle.gray.proofs.TurnLaw.{power_small, point_turn, point_done, digit_small}
 use Rattle.gray.proofs.map.point_at.Goals as goal
 
@@ -13,11 +12,6 @@ whole x = omega arith
 
 none : (n : ℕ) → n - 0 ≡ n
 none n = omega arith
-
-pub loop-init : goal.loop-init
-loop-init c =
-    let a = c.args in
-    (refl, omega arith, whole (point_of 3 (a.n - 0) a.p.0) ∙ ap (λ (k : ℕ). point_of 3 k a.p.0) (none a.n))
 
 pub overflow_mul-point : goal.overflow_mul-point
 overflow_mul-point c =
