@@ -1,20 +1,10 @@
 -- `differences::coefficients` meets its contract: it writes where nothing is refused.
 use mathlib.Core.Path.{◌≡◌, refl, sym, ap, ◌∙◌}
-use Rattle.std.proofs.Common.{rules}
 use Rattle.refusals.specs.Refusal.{Verdict, code_of, after, done}
 use Rattle.tables.specs.Words.{coefficients_of}
 use Rattle.tables.specs.Answers.{copy_verdict}
 use Rattle.tables.proofs.AnswerLaw.{copy_ready}
 use Rattle.differences.proofs.coefficients.Goals as goal
-
-pub coefficients_into-requires : goal.coefficients_into-requires
-coefficients_into-requires c =
-    let a = c.args in
-    let r = copy_ready a.n a.m a.table.now a.coefficients.now (sym (c.check_copy.ensures a.coefficients.now refl) ∙ c.in_ok-check_copy.was) in
-    (r.most, r.table.size, r.room)
-
-pub returns-in_err-check_copy : goal.returns-in_err-check_copy
-returns-in_err-check_copy c = let e = c.check_copy.ensures c.args.coefficients.now refl in search rules
 
 pub returns : goal.returns
 returns c =

@@ -1,5 +1,5 @@
 -- `differences::coefficients_into` meets its contract. The invariant: the unknowns before i are done.
-use mathlib.Core.Path.{◌≡◌, sym, ◌∙◌}
+use mathlib.Core.Path.{◌≡◌, ◌∙◌}
 use native.Mathlib.Omega.{arith}
 use Rattle.tables.specs.Words.{coefficients_of}
 use Rattle.turns.specs.Parts.{before_of}
@@ -22,12 +22,6 @@ loop-i-init c =
     let p = c.put_entry in
     let v = c.vector.ensures in
     λ m t. rw p.ensures (filled_none a.n (coefficients_of a.n m a.from.now) a.to.now c.vector.result (omega (arith, count_is a.n)) (v ∙ coefficients_first a.n m a.from.now t))
-
-pub product_before-p-requires : goal.product_before-p-requires
-product_before-p-requires c = let q = c.requires in (q.0, c.loop-i-test.true, c.loop-i.auto.to ∙ c.put_entry.auto.table ∙ q.2)
-
-pub turn-requires : goal.turn-requires
-turn-requires c = let q = c.requires in (q.0, c.loop-i-test.true, q.1, c.loop-i.auto.to ∙ c.put_entry.auto.table ∙ q.2)
 
 pub loop-i-preserved : goal.loop-i-preserved
 loop-i-preserved c =

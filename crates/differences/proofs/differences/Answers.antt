@@ -1,20 +1,10 @@
 -- `differences::differences` meets its contract: it writes where nothing is refused.
 use mathlib.Core.Path.{◌≡◌, refl, sym, ap, ◌∙◌}
-use Rattle.std.proofs.Common.{rules}
 use Rattle.refusals.specs.Refusal.{Verdict, code_of, after, done}
 use Rattle.tables.specs.Words.{differences_of}
 use Rattle.tables.specs.Answers.{copy_verdict}
 use Rattle.tables.proofs.AnswerLaw.{copy_ready}
 use Rattle.differences.proofs.differences.Goals as goal
-
-pub differences_into-requires : goal.differences_into-requires
-differences_into-requires c =
-    let a = c.args in
-    let r = copy_ready a.n a.m a.coefficients.now a.table.now (sym (c.check_copy.ensures a.table.now refl) ∙ c.in_ok-check_copy.was) in
-    (r.most, r.table.size, r.room)
-
-pub returns-in_err-check_copy : goal.returns-in_err-check_copy
-returns-in_err-check_copy c = let e = c.check_copy.ensures c.args.table.now refl in search rules
 
 pub returns : goal.returns
 returns c =

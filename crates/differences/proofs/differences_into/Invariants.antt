@@ -1,7 +1,4 @@
-use mathlib.Core.Path.{◌≡◌}
-use Prim.Native.Nat.{ℕ, ◌-◌, ◌*◌, ◌≤◌}
-use lib.ListN.{length}
-use Rattle.tables.specs.Monomials.{count_of}
+use Prim.Native.Nat.{ℕ}
 use Rattle.tables.specs.Words.{Table, differences_of}
 use Rattle.turns.specs.Parts.{Filled}
 use Rattle.differences.proofs.differences_into.Given as goal
