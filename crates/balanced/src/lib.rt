@@ -19,11 +19,9 @@ fn turn(a: u64, n: u64, x: u64) -> u64
 {
     let mut weight = power(n);
     let mut number: u64 = 0;
-    let mut i: u64 = 0;
-    while i < n {
-        weight = weight / 3;
+    for _ in 0..n {
+        weight /= 3;
         number = 3 * number + (x / weight % 3 + a) % 3;
-        i += 1;
     }
     number
 }
@@ -33,9 +31,7 @@ fn minus(a: u64, b: u64) -> i64
     requires { (a ≤ 4294967296) × (b ≤ 4294967296) }
     ensures { result ≡ pos a -ℤ pos b }
 {
-    let left = a as i64;
-    let right = b as i64;
-    left - right
+    a as i64 - b as i64
 }
 
 // The balanced number of a point of n unknowns.
@@ -43,16 +39,10 @@ pub fn to_balanced(n: u64, x: Point) -> Result<i64, Refusal>
     ensures answer { result ≡ balanced_from (convert_verdict n x.0) (balanced_of n x.0) }
     ensures number { balanced_told result ≡ told (convert_verdict n x.0) (balanced_of n x.0) }
 {
-    let verdict = convertible(n, x.0);
-    match verdict {
-        Err(r) => Err(r),
-        Ok(()) => {
-            let half = (power(n) - 1) / 2;
-            let raised = turn(1, n, x.0);
-            let number = minus(raised, half);
-            Ok(number)
-        }
-    }
+    convertible(n, x.0)?;
+    let half = (power(n) - 1) / 2;
+    let raised = turn(1, n, x.0);
+    Ok(minus(raised, half))
 }
 
 // The point of n unknowns whose balanced number is y.
@@ -71,6 +61,5 @@ pub fn from_balanced(n: u64, y: i64) -> Result<Point, Refusal>
         return Err(Refusal::Range);
     }
     let raised = (y + half) as u64;
-    let point = turn(2, n, raised);
-    Ok(Point(point))
+    Ok(Point(turn(2, n, raised)))
 }

@@ -20,11 +20,8 @@ pub fn differences_into(from: &[u64], to: &mut [u64], n: usize)
     ensures { (m : ℕ) → Table n m from.now → to.new ≡ differences_of n m from.now }
 {
     put_entry(to, 0, vector(from, 0));
-    let mut i: usize = 0;
-    while i < n {
-        let p = product_before(from, n, i);
-        turn(from, to, n, i, p);
-        i += 1;
+    for i in 0..n {
+        turn(from, to, n, i, product_before(from, n, i));
     }
 }
 
@@ -34,11 +31,9 @@ pub fn coefficients_into(from: &[u64], to: &mut [u64], n: usize)
     ensures { (m : ℕ) → Table n m from.now → to.new ≡ coefficients_of n m from.now }
 {
     put_entry(to, 0, vector(from, 0));
-    let mut i: usize = 0;
-    while i < n {
+    for i in 0..n {
         let p = product_before(to, n, i);
         turn(from, to, n, i, p);
-        i += 1;
     }
 }
 
@@ -48,11 +43,9 @@ pub fn differences(n: u64, m: u64, coefficients: &[u64], table: &mut [u64]) -> R
     ensures left { table.new ≡ differences_after n m coefficients.now table.old }
     ensures number { code_of result ≡ code_of (copy_verdict n m coefficients.now table.old) }
 {
-    let verdict = check_copy(n, m, coefficients, table.len());
-    if let Ok(()) = verdict {
-        differences_into(coefficients, table, n as usize);
-    }
-    verdict
+    check_copy(n, m, coefficients, table.len())?;
+    differences_into(coefficients, table, n as usize);
+    Ok(())
 }
 
 // The coefficients of a table of differences: `coefficients` is written whole, or on a refusal left as it was.
@@ -61,9 +54,7 @@ pub fn coefficients(n: u64, m: u64, table: &[u64], coefficients: &mut [u64]) -> 
     ensures left { coefficients.new ≡ coefficients_after n m table.now coefficients.old }
     ensures number { code_of result ≡ code_of (copy_verdict n m table.now coefficients.old) }
 {
-    let judged = check_copy(n, m, table, coefficients.len());
-    if let Ok(()) = judged {
-        coefficients_into(table, coefficients, n as usize);
-    }
-    judged
+    check_copy(n, m, table, coefficients.len())?;
+    coefficients_into(table, coefficients, n as usize);
+    Ok(())
 }

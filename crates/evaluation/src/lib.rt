@@ -26,11 +26,9 @@ pub fn digits(x: u64) -> [u64; MOST_UNKNOWNS]
 {
     let mut r = [0u64; MOST_UNKNOWNS];
     let mut rest = x;
-    let mut k: usize = 0;
-    while k < MOST_UNKNOWNS {
-        r[k] = rest % 3;
-        rest = rest / 3;
-        k += 1;
+    for digit in &mut r {
+        *digit = rest % 3;
+        rest /= 3;
     }
     r
 }
@@ -67,11 +65,8 @@ fn value_of(
         → Holds m (λ e. value_of (poly_at n table.now e) n x) result }
 {
     let mut v = vector(table, 0);
-    let mut s: usize = 0;
-    while s < count {
-        let w = turned(row_value(table, n, at, turn, s, count), turn[s]);
-        v = add(v, w);
-        s += 1;
+    for s in 0..count {
+        v = add(v, turned(row_value(table, n, at, turn, s, count), turn[s]));
     }
     v
 }
@@ -91,15 +86,9 @@ pub fn value_at(table: &[u64], n: usize, x: &[u64; MOST_UNKNOWNS]) -> Vector
 pub fn evaluate(n: u64, m: u64, coefficients: &[u64], x: Point) -> Result<Vector, Refusal>
     ensures { (result ≡ evaluate_of n m coefficients.now x.0) × Tells n m coefficients.now x.0 result }
 {
-    let verdict = check(n, m, coefficients);
-    match verdict {
-        Err(r) => Err(r),
-        Ok(()) => {
-            if x.0 >= power(n) {
-                return Err(Refusal::Range);
-            }
-            let d = digits(x.0);
-            Ok(value_at(coefficients, n as usize, &d))
-        }
+    check(n, m, coefficients)?;
+    if x.0 >= power(n) {
+        return Err(Refusal::Range);
     }
+    Ok(value_at(coefficients, n as usize, &digits(x.0)))
 }

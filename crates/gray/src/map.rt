@@ -16,14 +16,12 @@ pub fn point_at(n: u64, p: Place) -> Point
     let mut rest = p.0;
     let mut weight: u64 = 1;
     let mut point: u64 = 0;
-    let mut i: u64 = 0;
-    while i < n {
+    for _ in 0..n {
         let above = rest / 3;
         let digit = (rest % 3 + 3 - above % 3) % 3;
-        point = point + weight * digit;
-        weight = weight * 3;
+        point += weight * digit;
+        weight *= 3;
         rest = above;
-        i += 1;
     }
     Point(point)
 }
@@ -37,11 +35,9 @@ pub fn place_at(n: u64, x: Point) -> Place
     let point = x.0;
     let mut weight = power(n);
     let mut place: u64 = 0;
-    let mut i: u64 = 0;
-    while i < n {
-        weight = weight / 3;
+    for _ in 0..n {
+        weight /= 3;
         place = 3 * place + (point / weight % 3 + place) % 3;
-        i += 1;
     }
     Place(place)
 }
@@ -65,14 +61,8 @@ pub fn point_of(n: u64, p: Place) -> Result<Point, Refusal>
     ensures answer { result ≡ point_from (convert_verdict n p.0) (point_of 3 n p.0) }
     ensures number { point_told result ≡ told (convert_verdict n p.0) (point_of 3 n p.0) }
 {
-    let verdict = convertible(n, p.0);
-    match verdict {
-        Err(r) => Err(r),
-        Ok(()) => {
-            let point = point_at(n, p);
-            Ok(point)
-        }
-    }
+    convertible(n, p.0)?;
+    Ok(point_at(n, p))
 }
 
 // The place of a point of n unknowns.
@@ -80,12 +70,6 @@ pub fn place_of(n: u64, x: Point) -> Result<Place, Refusal>
     ensures answer { result ≡ place_from (convert_verdict n x.0) (place_of 3 n x.0) }
     ensures number { place_told result ≡ told (convert_verdict n x.0) (place_of 3 n x.0) }
 {
-    let verdict = convertible(n, x.0);
-    match verdict {
-        Err(r) => Err(r),
-        Ok(()) => {
-            let place = place_at(n, x);
-            Ok(place)
-        }
-    }
+    convertible(n, x.0)?;
+    Ok(place_at(n, x))
 }

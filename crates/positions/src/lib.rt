@@ -49,13 +49,7 @@ pub fn power(k: u64) -> u64
     if k > 40 {
         return 0;
     }
-    let mut r: u64 = 1;
-    let mut i: u64 = 0;
-    while i < k {
-        r = r * 3;
-        i += 1;
-    }
-    r
+    3u64.pow(k as u32)
 }
 
 // Position k of p, counted from 0: the first of p, or one of those of p less 3 to the first.
