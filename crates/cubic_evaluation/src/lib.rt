@@ -34,11 +34,9 @@ fn value_of(
         → Holds m (λ e. cubic_of (cubic_at n table.now e) n x) result }
 {
     let mut v = vector(table, 0);
-    let mut s: usize = 0;
-    while s < count {
+    for s in 0..count {
         let w = turned(plane(table, n, at, turn, s, count), turn[s]);
         v = add(v, w);
-        s += 1;
     }
     v
 }
@@ -58,15 +56,10 @@ pub fn value_at(table: &[u64], n: usize, x: &[u64; MOST_UNKNOWNS]) -> Vector
 pub fn evaluate(n: u64, m: u64, coefficients: &[u64], x: Point) -> Result<Vector, Refusal>
     ensures { (result ≡ cubic_evaluate n m coefficients.now x.0) × CubicTells n m coefficients.now x.0 result }
 {
-    let verdict = check(n, m, coefficients);
-    match verdict {
-        Err(r) => Err(r),
-        Ok(()) => {
-            if x.0 >= power(n) {
-                return Err(Refusal::Range);
-            }
-            let d = digits(x.0);
-            Ok(value_at(coefficients, n as usize, &d))
-        }
+    check(n, m, coefficients)?;
+    if x.0 >= power(n) {
+        return Err(Refusal::Range);
     }
+    let d = digits(x.0);
+    Ok(value_at(coefficients, n as usize, &d))
 }

@@ -58,11 +58,9 @@ pub fn plane(
 {
     let i = at[s];
     let mut v = vector(table, 1 + i);
-    let mut t = s;
-    while t < count {
+    for t in s..count {
         let w = turned(cell(table, n, at, turn, s, t, count), turn[t]);
         v = add(v, w);
-        t += 1;
     }
     v
 }

@@ -58,15 +58,13 @@ fn rows(table: &[u64], n: usize, b: usize, rest: u64, up: u64, first: Vector) ->
     let kb = key(n, b);
     let mut y = rest / up;
     let mut v = first;
-    let mut c = b + 1;
-    while c < n {
+    for c in b + 1..n {
         from = skip(&at, from, count, c + 1);
         let base = kb + (pair(n, c, c) - c);
         let w = weigh(y);
         let r = weighed(table, n, b, c, base, w, &at, &turn, from, count);
         v = add(v, r);
-        y = y / 3;
-        c += 1;
+        y /= 3;
     }
     v
 }
@@ -90,12 +88,9 @@ pub fn slots_at(table: &[u64], n: usize, q: u64) -> [Vector; MOST_UNKNOWNS]
 {
     let mut s = [Vector { high: 0, low: 0 }; MOST_UNKNOWNS];
     let mut power: u64 = 1;
-    let mut b: usize = 0;
-    while b < n {
-        let v = slot(table, n, b, q, power);
-        s[b] = v;
-        power = power * 3;
-        b += 1;
+    for b in 0..n {
+        s[b] = slot(table, n, b, q, power);
+        power *= 3;
     }
     s
 }

@@ -43,15 +43,13 @@ fn later(
     let mut v = vector(table, 1 + b);
     let mut z = y;
     let mut f = from;
-    let mut c = b + 2;
-    while c < n {
+    for c in b + 2..n {
         f = skip(at, f, count, c + 1);
         let base = kb + (pair(n, c, c) - c);
         let w = weigh(z);
         let r = weighed(table, n, b, c, base, w, at, turn, f, count);
         v = add(v, r);
-        z = z / 3;
-        c += 1;
+        z /= 3;
     }
     v
 }
@@ -139,13 +137,11 @@ pub fn value_after(table: &[u64], n: usize, q: u64) -> Vector
     let mut v = vector(table, 0);
     let mut y = q;
     let mut from: usize = 0;
-    let mut b: usize = 0;
-    while b < n {
+    for b in 0..n {
         from = skip(&at, from, count, b + 1);
         let p = part(table, n, b, q, y, &at, &turn, from, count);
         v = add(v, p);
-        y = y / 3;
-        b += 1;
+        y /= 3;
     }
     v
 }

@@ -49,13 +49,11 @@ fn second(table: &[u64], n: usize, b: usize, c: usize, base: usize, rest: u64, p
     let mut y = rest / power;
     let mut v = seed(table, n, b, c, base, y);
     y = y / 3;
-    let mut d = c + 1;
-    while d < n {
+    for d in c + 1..n {
         let z = y / 3;
         let w = times(vector(table, base + d), y - z);
         v = add(v, w);
         y = z;
-        d += 1;
     }
     v
 }
@@ -68,15 +66,13 @@ fn row(table: &[u64], n: usize, b: usize, q: u64, first: u64, out: &mut [u64; 42
     let kb = key(n, b);
     let left = less(q, first);
     let mut power = first;
-    let mut c = b;
-    while c < n {
+    for c in b..n {
         let base = kb + (pair(n, c, c) - c);
         let v = second(table, n, b, c, base, less(left, power), power);
         let at = 2 * pair(MOST_UNKNOWNS, b, c);
         out[at] = v.high;
         out[at + 1] = v.low;
-        power = power * 3;
-        c += 1;
+        power *= 3;
     }
 }
 
@@ -87,11 +83,9 @@ pub fn seconds_at(table: &[u64], n: usize, q: u64) -> [u64; 420]
 {
     let mut s = [0u64; 420];
     let mut power: u64 = 1;
-    let mut b: usize = 0;
-    while b < n {
+    for b in 0..n {
         row(table, n, b, q, power, &mut s);
-        power = power * 3;
-        b += 1;
+        power *= 3;
     }
     s
 }
