@@ -18,6 +18,7 @@ use cubic_tables::triple;
 use tables::{index, put_entry, vector};
 use trits::{Vector, add, negate};
 
+// One flag for both ways: a closure would have to say what it gives over each state of the table that is being written.
 // The entry of b, c, d: of the differences of the coefficients `from`, or on the way back of the coefficients, of which those before it stand in `to`.
 fn value(from: &[u64], to: &[u64], n: usize, back: bool, b: usize, c: usize, d: usize) -> Vector
     requires { (n ≤ most_unknowns) × (b ≤ c) × (c ≤ d) × (b < d) × (d < n) × (length from.now ≡ 2 * cubic_count n) × (length to.now ≡ 2 * cubic_count n) }

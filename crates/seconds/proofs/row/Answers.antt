@@ -13,12 +13,6 @@ use Rattle.seconds.proofs.CountedLaw.{pair_low, power_next, power_small}
 use Rattle.seconds.proofs.FilledLaw.{filled_next}
 use Rattle.seconds.proofs.row.Goals as goal
 
--- what is written stands at the pair's seat
-put : (n : ℕ) (t : List ℕ) (q b c k : ℕ) (s : List ℕ) (v : Vector) → k ≡ seat_of b c → Filled n t q b (c + 1) (put_at s (seat_of b c) v)
-    → Filled n t q b (c + 1) (set (set s (2 * k) v.high) (2 * k + 1) v.low)
-unfolding put_at
-put n t q b c k s v e f = rw e f
-
 pub loop-c-init : goal.loop-c-init
 loop-c-init c =
     let p = c.requires in
@@ -48,8 +42,7 @@ loop-c-preserved c =
     let l = c.loop-c in
     let left : c.saturating_sub.result ≡ a.q - (3 ^ a.b + 3 ^ l.c) = omega arith in (
       ap (λ (x : ℕ). x * 3) l.invariant.0 ∙ power_next l.c,
-      λ f. put a.n a.table.now a.q a.b l.c c.pair-at.result l.out c.second-v.result c.pair-at.ensures.0
-          (filled_next a.n a.table.now a.q a.b l.c l.out c.second-v.result l.auto.c (omega arith) p.0 (λ m w. c.second-v.ensures m a.q w p.2 left) (l.invariant.1 f)),
+      λ f. rw (c.put_entry.ensures, c.pair-k.ensures.0) (filled_next a.n a.table.now a.q a.b l.c l.out c.second-v.result l.auto.c (omega arith) p.0 (λ m w. c.second-v.ensures m a.q w p.2 left) (l.invariant.1 f)),
     )
 
 pub returns : goal.returns
