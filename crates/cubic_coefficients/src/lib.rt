@@ -42,9 +42,7 @@ pub fn coefficients(n: u64, m: u64, table: &[u64], coefficients: &mut [u64]) -> 
     ensures left { coefficients.new ≡ cubic_coefficients_after n m table.now coefficients.old }
     ensures number { code_of result ≡ code_of (cubic_copy n m table.now coefficients.old) }
 {
-    let judged = check_copy(n, m, table, coefficients.len());
-    if let Ok(()) = judged {
-        coefficients_into(table, coefficients, n as usize);
-    }
-    judged
+    check_copy(n, m, table, coefficients.len())?;
+    coefficients_into(table, coefficients, n as usize);
+    Ok(())
 }

@@ -42,9 +42,7 @@ pub fn differences(n: u64, m: u64, coefficients: &[u64], table: &mut [u64]) -> R
     ensures left { table.new ≡ cubic_differences_after n m coefficients.now table.old }
     ensures number { code_of result ≡ code_of (cubic_copy n m coefficients.now table.old) }
 {
-    let verdict = check_copy(n, m, coefficients, table.len());
-    if let Ok(()) = verdict {
-        differences_into(coefficients, table, n as usize);
-    }
-    verdict
+    check_copy(n, m, coefficients, table.len())?;
+    differences_into(coefficients, table, n as usize);
+    Ok(())
 }

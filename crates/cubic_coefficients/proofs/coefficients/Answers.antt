@@ -1,4 +1,6 @@
 -- `cubic_coefficients::coefficients` meets its contract: it writes where nothing is refused.
+use Rattle.std.specs.Prelude.{Err}
+use Rattle.std.proofs.lemmas.Result.{err_from_is_err_and}
 use mathlib.Core.Path.{◌≡◌, refl, sym, ap, ◌∙◌}
 use Rattle.refusals.specs.Refusal.{Verdict, code_of, after, done}
 use Rattle.cubic_tables.specs.Words.{cubic_coefficients}
@@ -10,22 +12,23 @@ use Rattle.cubic_coefficients.proofs.coefficients.Goals as goal
 pub coefficients_into-requires : goal.coefficients_into-requires
 coefficients_into-requires c =
     let a = c.args in
-    let k = c.check_copy-judged in
-    let r = entries_ready (cubic_count a.n) a.n a.m a.table.now a.coefficients.now (sym (k.ensures a.coefficients.now refl) ∙ c.in-Ok.is) in
+    let k = c.check_copy in
+    let r = entries_ready (cubic_count a.n) a.n a.m a.table.now a.coefficients.now (sym (k.ensures a.coefficients.now refl) ∙ c.in_ok-check_copy.was) in
     (r.least, r.most, r.table.size, r.room)
 
-pub returns-in-Ok : goal.returns-in-Ok
-returns-in-Ok c =
+pub returns : goal.returns
+returns c =
     let a = c.args in
-    let k = c.check_copy-judged in
+    let k = c.check_copy in
     let e = k.ensures a.coefficients.now refl in
-    let d : cubic_copy a.n a.m a.table.now a.coefficients.now ≡ done = sym e ∙ c.in-Ok.is in
+    let d : cubic_copy a.n a.m a.table.now a.coefficients.now ≡ done = sym e ∙ c.in_ok-check_copy.was in
     let r = entries_ready (cubic_count a.n) a.n a.m a.table.now a.coefficients.now d in
-    record { answer = e; left = c.coefficients_into.ensures a.m r.table ∙ sym (ap (λ (v : Verdict). after v a.coefficients.now (cubic_coefficients a.n a.m a.table.now)) d); number = ap code_of e }
+    record { answer = sym d; left = c.coefficients_into.ensures a.m r.table ∙ sym (ap (λ (v : Verdict). after v a.coefficients.now (cubic_coefficients a.n a.m a.table.now)) d); number = ap code_of (sym d) }
 
-pub returns-in_default : goal.returns-in_default
-returns-in_default c =
+pub returns-in_err-check_copy : goal.returns-in_err-check_copy
+returns-in_err-check_copy c =
     let a = c.args in
-    let k = c.check_copy-judged in
-    let e = k.ensures a.coefficients.now refl in
-    record { answer = e; left = sym (ap (λ (v : Verdict). after v a.coefficients.now (cubic_coefficients a.n a.m a.table.now)) (sym e ∙ c.in_default.is)); number = ap code_of e }
+    let p = err_from_is_err_and c.from_residual.result c.from_residual.ensures.1 in
+    let r : c.from_residual.result ≡ c.check_copy.result = p.1 ∙ ap Err p.2 ∙ sym c.in_err-check_copy.was in
+    let e = r ∙ c.check_copy.ensures a.coefficients.now refl in
+    record { answer = e; left = sym (ap (λ (v : Verdict). after v a.coefficients.now (cubic_coefficients a.n a.m a.table.now)) (sym e ∙ r ∙ c.in_err-check_copy.was)); number = ap code_of e }

@@ -1,4 +1,6 @@
 -- `cubic_differences::differences` meets its contract: it writes where nothing is refused.
+use Rattle.std.specs.Prelude.{Err}
+use Rattle.std.proofs.lemmas.Result.{err_from_is_err_and}
 use mathlib.Core.Path.{◌≡◌, refl, sym, ap, ◌∙◌}
 use Rattle.refusals.specs.Refusal.{Verdict, code_of, after, done}
 use Rattle.cubic_tables.specs.Words.{cubic_differences}
@@ -10,22 +12,23 @@ use Rattle.cubic_differences.proofs.differences.Goals as goal
 pub differences_into-requires : goal.differences_into-requires
 differences_into-requires c =
     let a = c.args in
-    let k = c.check_copy-verdict in
-    let r = entries_ready (cubic_count a.n) a.n a.m a.coefficients.now a.table.now (sym (k.ensures a.table.now refl) ∙ c.in-Ok.is) in
+    let k = c.check_copy in
+    let r = entries_ready (cubic_count a.n) a.n a.m a.coefficients.now a.table.now (sym (k.ensures a.table.now refl) ∙ c.in_ok-check_copy.was) in
     (r.least, r.most, r.table.size, r.room)
 
-pub returns-in-Ok : goal.returns-in-Ok
-returns-in-Ok c =
+pub returns : goal.returns
+returns c =
     let a = c.args in
-    let k = c.check_copy-verdict in
+    let k = c.check_copy in
     let e = k.ensures a.table.now refl in
-    let d : cubic_copy a.n a.m a.coefficients.now a.table.now ≡ done = sym e ∙ c.in-Ok.is in
+    let d : cubic_copy a.n a.m a.coefficients.now a.table.now ≡ done = sym e ∙ c.in_ok-check_copy.was in
     let r = entries_ready (cubic_count a.n) a.n a.m a.coefficients.now a.table.now d in
-    record { answer = e; left = c.differences_into.ensures a.m r.table ∙ sym (ap (λ (v : Verdict). after v a.table.now (cubic_differences a.n a.m a.coefficients.now)) d); number = ap code_of e }
+    record { answer = sym d; left = c.differences_into.ensures a.m r.table ∙ sym (ap (λ (v : Verdict). after v a.table.now (cubic_differences a.n a.m a.coefficients.now)) d); number = ap code_of (sym d) }
 
-pub returns-in_default : goal.returns-in_default
-returns-in_default c =
+pub returns-in_err-check_copy : goal.returns-in_err-check_copy
+returns-in_err-check_copy c =
     let a = c.args in
-    let k = c.check_copy-verdict in
-    let e = k.ensures a.table.now refl in
-    record { answer = e; left = sym (ap (λ (v : Verdict). after v a.table.now (cubic_differences a.n a.m a.coefficients.now)) (sym e ∙ c.in_default.is)); number = ap code_of e }
+    let p = err_from_is_err_and c.from_residual.result c.from_residual.ensures.1 in
+    let r : c.from_residual.result ≡ c.check_copy.result = p.1 ∙ ap Err p.2 ∙ sym c.in_err-check_copy.was in
+    let e = r ∙ c.check_copy.ensures a.table.now refl in
+    record { answer = e; left = sym (ap (λ (v : Verdict). after v a.table.now (cubic_differences a.n a.m a.coefficients.now)) (sym e ∙ r ∙ c.in_err-check_copy.was)); number = ap code_of e }
