@@ -28,25 +28,31 @@ pub(crate) fn steps(table: &[u64], n: usize, end: u64, r: Ran, budget: u64, list
     while going(left, end, place, len, found) {
         let f = positions::split(place);
         let b = f.position;
-        let slot = slots[b];
-        let h = turn(table, n, place, b, f.rest, slot, value, cost, &mut seconds);
-        let up = h.slot;
-        let next = h.value;
-        slots[b] = up;
-        found = mark(n, next, place, found, list);
-        value = next;
+        let h = turn(
+            table,
+            n,
+            place,
+            b,
+            f.rest,
+            slots[b],
+            value,
+            cost,
+            &mut seconds,
+        );
+        slots[b] = h.slot;
+        found = mark(n, h.value, place, found, list);
+        value = h.value;
         cost = h.additions;
         place += 1;
         left -= 1;
     }
-    let walker = Walker {
-        place,
-        value,
-        slots,
-        seconds,
-    };
     Ran {
-        walker,
+        walker: Walker {
+            place,
+            value,
+            slots,
+            seconds,
+        },
         additions: cost,
         found,
     }

@@ -46,16 +46,14 @@ pub fn run(table: &[u64], n: usize, end: u64, w: Walker, budget: u64, list: &mut
     ensures state { state_of result list.new ≡ search_of table.now n end budget (fresh w list.old) }
     ensures range { (w.place ≤ result.walker.place) × (result.walker.place ≤ end) }
 {
-    let start = w.place;
     let r = Ran {
         walker: w,
         additions: 0,
         found: 0,
     };
-    let first = lead(start, budget);
-    let a = steps::steps(table, n, end, r, first, list);
+    let a = steps::steps(table, n, end, r, lead(w.place, budget), list);
     let at = a.walker.place;
-    let b = leaps::leaps(table, n, end, a, budget - (at - start), list);
+    let b = leaps::leaps(table, n, end, a, budget - (at - w.place), list);
     let past = b.walker.place;
-    steps::steps(table, n, end, b, budget - (past - start), list)
+    steps::steps(table, n, end, b, budget - (past - w.place), list)
 }

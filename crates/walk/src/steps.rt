@@ -10,13 +10,7 @@ use moves::{head, mark};
 pub fn going(left: u64, end: u64, place: u64, len: usize, found: usize) -> bool
     ensures { result ≡ (not (eqb left 0) && not (eqb place end) && not (eqb found len)) }
 {
-    if left == 0 {
-        return false;
-    }
-    if place == end {
-        return false;
-    }
-    found != len
+    left != 0 && place != end && found != len
 }
 
 // At most budget places, one by one, up to end or a full list. Nothing is copied from place to place.
@@ -38,24 +32,20 @@ pub(crate) fn steps(table: &[u64], n: usize, end: u64, r: Ran, budget: u64, list
     while going(left, end, place, len, found) {
         let f = positions::split(place);
         let b = f.position;
-        let slot = slots[b];
-        let h = head(table, n, place, b, f.rest, slot, value, additions);
-        let up = h.slot;
-        let next = h.value;
-        slots[b] = up;
-        found = mark(n, next, place, found, list);
-        value = next;
+        let h = head(table, n, place, b, f.rest, slots[b], value, additions);
+        slots[b] = h.slot;
+        found = mark(n, h.value, place, found, list);
+        value = h.value;
         additions = h.additions;
         place += 1;
         left -= 1;
     }
-    let walker = Walker {
-        place,
-        value,
-        slots,
-    };
     Ran {
-        walker,
+        walker: Walker {
+            place,
+            value,
+            slots,
+        },
         additions,
         found,
     }

@@ -10,8 +10,7 @@ use Rattle.cubic_moves.proofs.MoveLaw.{third_lt}
 use Rattle.cubic_moves.proofs.second.Goals as goal
 
 pub returns-then-rest-eq0 : goal.returns-then-rest-eq0
-unfolding entry
-returns-then-rest-eq0 c = record { two = (λ h. (refl, refl, refl)); three = (λ h. absurd (omega (arith, h, c.if-rest-eq0))); count = omega arith }
+returns-then-rest-eq0 c = record { two = (λ h. (refl, c.vector.ensures, refl)); three = (λ h. absurd (omega (arith, h, c.if-rest-eq0))); count = omega arith }
 
 pub overflow_add-d : goal.overflow_add-d
 overflow_add-d c =
