@@ -4,14 +4,16 @@ use Prim.Native.Nat.{◌^◌}
 use native.Mathlib.Omega.{arith}
 use Rattle.given.specs.Given.{table_with}
 use Rattle.given.proofs.TableLaw.{within}
-use Rattle.opening.specs.Opened.{opened_code}
+use Rattle.std.proofs.lemmas.Result.{err_from_is_err_and}
+use Rattle.opening.specs.Opened.{opened_code, refused_open}
 use Rattle.opening.proofs.VerdictLaw.{open_refused, open_out, open_done, open_number}
 use Rattle.opening.proofs.open.Goals as goal
 
 pub returns-in_err-check : goal.returns-in_err-check
 returns-in_err-check c =
     let g = table_with c.args.degree c.args.n c.args.m c.args.table.now in
-    let e = c.from_residual.ensures ∙ open_refused g c.args.place.0 _ (sym c.check.ensures.answer ∙ c.in_err-check.was) in
+    let p = err_from_is_err_and c.from_residual.result c.from_residual.ensures.1 in
+    let e = p.1 ∙ ap refused_open p.2 ∙ open_refused g c.args.place.0 _ (sym c.check.ensures.answer ∙ c.in_err-check.was) in
     record { value = e; number = ap opened_code e ∙ open_number g c.args.place.0 }
 
 pub returns-then-place-power : goal.returns-then-place-power
