@@ -63,14 +63,7 @@ pub fn read_record(b: &[u8]) -> Record
     let f = read_first(b);
     let mut seconds = [0u64; SECOND_WORDS];
     read_seconds(b, &mut seconds);
-    Record {
-        n: f.n,
-        m: f.m,
-        place: f.place,
-        value: f.value,
-        slots: f.slots,
-        seconds,
-    }
+    f.with(seconds)
 }
 
 // Whether the record that 3,720 bytes stand for has no second slots. No byte ends it early, so that the compiler looks at several at once.
