@@ -8,7 +8,6 @@ ghost use Rattle.refusals.specs.Limits.{record_length, second_words};
 ghost use Rattle.outcomes.specs.Search.{answer_number, answer_values};
 ghost use Rattle.answers.specs.Written.{answer_length, record_bytes, parts_bytes, answer_bytes};
 
-use gray::Place;
 use opening::{First, Record};
 use refusals::Refusal;
 use walks::{Report, Stop};
@@ -40,7 +39,7 @@ fn stop_place(end: u64, s: Stop) -> u64
 // All of b becomes the 40 bytes of an answer, of a walk that ends at place `end`.
 fn write_answer(end: u64, a: Report, b: &mut [u8])
     requires { length b.old ≡ answer_length }
-    ensures { b.new ≡ bytes_from (answer_values end (Ran a)) }
+    ensures { b.new ≡ bytes_from (answer_values end (Ok a)) }
 {
     let s = a.stop;
     let stop = stop_number(s);
@@ -87,15 +86,5 @@ pub fn finish(
         × («record».new ≡ record_bytes a r «record».old)
         × (answer.new ≡ answer_bytes end a answer.old) }
 {
-    let value = r.value;
-    let slots = r.slots;
-    let f = First {
-        n: r.n,
-        m: r.m,
-        place: Place(r.place.0),
-        value,
-        slots,
-    };
-    let seconds = r.seconds;
-    finish_parts(end, a, f, &seconds, record, answer)
+    finish_parts(end, a, r.first(), &r.seconds, record, answer)
 }

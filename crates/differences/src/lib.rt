@@ -9,7 +9,7 @@ ghost use Rattle.tables.specs.Monomials.{count_of};
 ghost use Rattle.tables.specs.Words.{Table, differences_of, coefficients_of};
 ghost use Rattle.tables.specs.Answers.{copy_verdict, differences_after, coefficients_after};
 
-use checks::check_copy;
+use checks::{Quadratic, check_copy};
 use refusals::Refusal;
 use tables::{put_entry, vector};
 use turns::{product_before, turn};
@@ -43,7 +43,7 @@ pub fn differences(n: u64, m: u64, coefficients: &[u64], table: &mut [u64]) -> R
     ensures left { table.new ≡ differences_after n m coefficients.now table.old }
     ensures number { code_of result ≡ code_of (copy_verdict n m coefficients.now table.old) }
 {
-    check_copy(n, m, coefficients, table.len())?;
+    check_copy::<Quadratic>(n, m, coefficients, table.len())?;
     differences_into(coefficients, table, n as usize);
     Ok(())
 }
@@ -54,7 +54,7 @@ pub fn coefficients(n: u64, m: u64, table: &[u64], coefficients: &mut [u64]) -> 
     ensures left { coefficients.new ≡ coefficients_after n m table.now coefficients.old }
     ensures number { code_of result ≡ code_of (copy_verdict n m table.now coefficients.old) }
 {
-    check_copy(n, m, table, coefficients.len())?;
+    check_copy::<Quadratic>(n, m, table, coefficients.len())?;
     coefficients_into(table, coefficients, n as usize);
     Ok(())
 }

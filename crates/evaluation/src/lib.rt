@@ -12,7 +12,7 @@ ghost use Rattle.tables.specs.Words.{Table, poly_at};
 ghost use Rattle.evaluation.specs.Parts.{row_of};
 ghost use Rattle.tables.specs.Answers.{evaluate_of, Tells};
 
-use checks::check;
+use checks::{Quadratic, check};
 use gray::Point;
 use listed::{nonzero_into, row, turned};
 use positions::power;
@@ -86,7 +86,7 @@ pub fn value_at(table: &[u64], n: usize, x: &[u64; MOST_UNKNOWNS]) -> Vector
 pub fn evaluate(n: u64, m: u64, coefficients: &[u64], x: Point) -> Result<Vector, Refusal>
     ensures { (result ≡ evaluate_of n m coefficients.now x.0) × Tells n m coefficients.now x.0 result }
 {
-    check(n, m, coefficients)?;
+    check::<Quadratic>(n, m, coefficients)?;
     if x.0 >= power(n) {
         return Err(Refusal::Range);
     }

@@ -6,6 +6,7 @@ ghost use Rattle.std.specs.Prelude.{◌≡◌};
 ghost use Rattle.refusals.specs.Refusal.{code_of, done};
 ghost use Rattle.given.specs.Given.{table_with, table_verdict, degree_told};
 
+use checks::Quadratic;
 use refusals::{MOST_UNKNOWNS, Refusal};
 
 // The degree of the system behind a table, told like its sizes.
@@ -21,7 +22,7 @@ pub fn check(degree: Degree, n: u64, m: u64, table: &[u64]) -> Result<(), Refusa
     ensures number { code_of result ≡ code_of (table_verdict (table_with degree n m table.now) done) }
 {
     match degree {
-        Degree::Two => checks::check(n, m, table),
+        Degree::Two => checks::check::<Quadratic>(n, m, table),
         Degree::Three => cubic_checks::check(n, m, table),
     }
 }

@@ -17,7 +17,7 @@ use Rattle.trits.specs.declared.Vector.{Vector}
 use Rattle.gray.specs.Answers.{point_from, place_from, point_told, place_told}
 use Rattle.balanced.specs.Answers.{balanced_from, balanced_told}
 use Rattle.tables.specs.Answers.{valued, evaluated_code}
-use Rattle.lent.specs.Lent.{room, single, vector_words, point_put, place_put, balanced_put, value_put}
+use Rattle.lent.specs.Lent.{room, single, judged, vector_words, point_put, place_put, balanced_put, value_put}
 
 -- ---- what every return says of the number and of what was lent
 abbrev pub Meets : {A : Type 0} → Verdict → ℕ → A → A → A → Type 0
@@ -45,10 +45,19 @@ stopped ask stays w e c i h u old new =
 pub passed : (v w : Verdict) → w ≡ v → (c : ℕ) → c ≡ code_of w → c ≡ 0 → v ≡ done
 passed v w e c i z = sym e ∙ code_zero w (sym i ∙ z)
 
--- an answer a that is z, told as a number and put into what was lent
-pub answered : {Z A : Type 0} (told : Z → ℕ) (put : Z → A) (v u : Verdict) → v ≡ u → (a z : Z) → a ≡ z → (c : ℕ) (now old new : A)
-    → (c ≡ told a) × (now ≡ put a) → Meets u (told z) (put z) old new → Meets v c now old new
-answered told put v u e a z g c now old new p q = moved v u e c now old new (p.0 ∙ ap told g ∙ q.0, p.1 ∙ ap put g ∙ q.1)
+-- the same of a verdict r that is handed on: a question before, with the verdict w, refuses by f
+pub refused_first : {A : Type 0} (ask : Verdict → Verdict) → ((f : Refusal) (v : Verdict) → ask done ≡ Err f → ask v ≡ Err f)
+    → (w : Verdict) → w ≡ ask done → (f : Refusal) → w ≡ Err f → (r : Verdict) → r ≡ Err f → (u : Verdict) (old new : A)
+    → (r ≡ ask u) × (old ≡ after (ask u) old new)
+refused_first ask stays w e f j r k u old new =
+    let q = stays f u (sym e ∙ j) in
+    (k ∙ sym q, sym (ap (λ (z : Verdict). after z old new) q))
+
+-- or no question does, and an answer a that is z is told as a verdict and put into what was lent
+pub answered : {Z A : Type 0} (told : Z → Verdict) (put : Z → A) (v u : Verdict) → v ≡ u → (a z : Z) → a ≡ z → (r : Verdict) (now old new : A)
+    → r ≡ told a → now ≡ put a → (told z ≡ u) × (put z ≡ after u old new) → (r ≡ v) × (now ≡ after v old new)
+answered told put v u e a z g r now old new p q h =
+    (p ∙ ap told g ∙ h.0 ∙ sym e, q ∙ ap put g ∙ h.1 ∙ sym (ap (λ (x : Verdict). after x old new) e))
 
 -- ---- the questions before
 module _ (n m k w : ℕ) where
@@ -82,19 +91,19 @@ module _ (n k : ℕ) where
       )
 
 -- ---- the answers
-pub point_meets : (u : Verdict) (x : ℕ) (old : List ℕ) → Meets u (point_told (point_from u x)).0 (point_put (point_from u x) old) old (x ∷ [])
+pub point_meets : (u : Verdict) (x : ℕ) (old : List ℕ) → (judged (point_from u x) ≡ u) × (point_put (point_from u x) old ≡ after u old (x ∷ []))
 point_meets (Ok _) x old = (refl, refl)
 point_meets (Err f) x old = (refl, refl)
 
-pub place_meets : (u : Verdict) (x : ℕ) (old : List ℕ) → Meets u (place_told (place_from u x)).0 (place_put (place_from u x) old) old (x ∷ [])
+pub place_meets : (u : Verdict) (x : ℕ) (old : List ℕ) → (judged (place_from u x) ≡ u) × (place_put (place_from u x) old ≡ after u old (x ∷ []))
 place_meets (Ok _) x old = (refl, refl)
 place_meets (Err f) x old = (refl, refl)
 
-pub balanced_meets : (u : Verdict) (y : ℤ) (old : List ℤ) → Meets u (balanced_told (balanced_from u y)).0 (balanced_put (balanced_from u y) old) old (y ∷ [])
+pub balanced_meets : (u : Verdict) (y : ℤ) (old : List ℤ) → (judged (balanced_from u y) ≡ u) × (balanced_put (balanced_from u y) old ≡ after u old (y ∷ []))
 balanced_meets (Ok _) y old = (refl, refl)
 balanced_meets (Err f) y old = (refl, refl)
 
-pub value_meets : (u : Verdict) (v : Vector) (old : List ℕ) → Meets u (evaluated_code (valued u v)) (value_put (valued u v) old) old (vector_words v)
+pub value_meets : (u : Verdict) (v : Vector) (old : List ℕ) → (judged (valued u v) ≡ u) × (value_put (valued u v) old ≡ after u old (vector_words v))
 value_meets (Ok _) v old = (refl, refl)
 value_meets (Err f) v old = (refl, refl)
 

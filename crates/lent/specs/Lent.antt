@@ -1,8 +1,9 @@
 -- Lent words: the questions before they are written, and what is left in them by each answer.
-use Rattle.std.specs.Prelude.{not, List, [], ◌∷◌, ℕ, eqb, ℤ, Ok, Err}
+use Rattle.std.specs.Prelude.{not, List, [], ◌∷◌, ℕ, eqb, ℤ, Ok, Err, Result}
+use Rattle.refusals.specs.declared.Refusal.{Refusal}
 use Rattle.refusals.specs.declared.Refusal.TheVariants.{Length}
 use Rattle.refusals.specs.Refusal.{Verdict}
-use Rattle.refusals.specs.Refusal.{refuse, sized, sized_unknowns}
+use Rattle.refusals.specs.Refusal.{done, refuse, sized, sized_unknowns}
 use Rattle.trits.specs.declared.Vector.{Vector}
 use Rattle.gray.specs.Answers.{PointAnswer}
 use Rattle.gray.specs.Answers.{PlaceAnswer}
@@ -17,6 +18,11 @@ room n m count wanted v = sized n m (refuse (not (eqb count wanted)) Length v)
 -- the same where no m is given, and one entry is wanted
 abbrev pub single : ℕ → ℕ → Verdict → Verdict
 single n count v = sized_unknowns n (refuse (not (eqb count 1)) Length v)
+
+-- whether an answer is a value, or why it is none
+abbrev pub judged : {A : Type 0} → Result A Refusal → Verdict
+judged (Ok _) = done
+judged (Err r) = Err r
 
 -- what each answer leaves in them; its number is in gray/specs/Answers, balanced/specs/Answers and tables/specs/Answers
 abbrev pub point_put : PointAnswer → List ℕ → List ℕ

@@ -6,6 +6,7 @@ ghost use Rattle.std.specs.Prelude.{◌≡◌};
 ghost use Rattle.refusals.specs.Refusal.{code_of};
 ghost use Rattle.operations.specs.Operations.{packing, packed_into, copying, differences_into, coefficients_into, evaluated_in, TellsIn};
 
+use checks::Quadratic;
 use given::Degree;
 use gray::Point;
 use refusals::Refusal;
@@ -18,7 +19,7 @@ pub fn pack(degree: Degree, n: u64, m: u64, rows: &[i8], table: &mut [u64]) -> R
     ensures number { code_of result ≡ code_of (packing degree n m rows.now table.old) }
 {
     match degree {
-        Degree::Two => rows::pack(n, m, rows, table),
+        Degree::Two => rows::pack::<Quadratic>(n, m, rows, table),
         Degree::Three => cubic_rows::pack(n, m, rows, table),
     }
 }

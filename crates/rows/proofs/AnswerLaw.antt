@@ -10,9 +10,8 @@ use Rattle.refusals.specs.declared.Refusal.TheVariants.{Length}
 use Rattle.refusals.specs.Refusal.{Verdict, code_of, sized, after, done}
 use Rattle.refusals.specs.Limits.{Within}
 use Rattle.refusals.proofs.RefusalLaw.{sized_next}
-use Rattle.tables.specs.Monomials.{count_of}
-use Rattle.tables.specs.Words.{packed_rows, packed}
-use Rattle.tables.specs.Answers.{long_of, rows_verdict, pack_verdict, pack_after}
+use Rattle.tables.specs.Words.{packed_rows}
+use Rattle.tables.specs.Answers.{long_of, rows_verdict}
 use Rattle.tables.proofs.AnswerLaw.{long_refused, long_passed}
 
 module _ (N m : ℕ) (rows : List ℤ) (t : List ℕ) where
@@ -42,9 +41,3 @@ module _ (N n m : ℕ) (rows : List ℤ) (t new : List ℕ) (k : ℕ) (r : Verdi
     left ∙ ap₂ (λ (v : Verdict) (M : ℕ). after v t (packed_rows M m rows)) verdict_is count,
     ap code_of (told ∙ verdict_is),
   )
-
-pub pack_is : (n m : ℕ) (rows : List ℤ) (t new : List ℕ) (k : ℕ) (r : Verdict) → Within n m → k ≡ count_of n
-    → r ≡ rows_verdict k m rows t → new ≡ after (rows_verdict k m rows t) t (packed_rows k m rows)
-    → (r ≡ pack_verdict n m rows t) × (new ≡ pack_after n m rows t) × (code_of r ≡ code_of (pack_verdict n m rows t))
-unfolding packed
-pack_is n m = entries_is (count_of n) n m
