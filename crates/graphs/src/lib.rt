@@ -2,7 +2,7 @@
 // Contracts cite specs/Reading (what a text means) and specs/Scans (what the structs stand for).
 #![tactic(auto)]
 
-ghost use Rattle.std.specs.Prelude.{◌≡◌, ◌+◌, ◌≤◌};
+ghost use Rattle.std.specs.Prelude.{◌≡◌, Some, IfOk, ◌+◌, ◌≤◌};
 ghost use Rattle.graphs.specs.Reading.{text_most, problem_fault, edge_fault, end_of, number_at};
 ghost use Rattle.graphs.specs.Scans.{state_of, ended};
 
@@ -67,7 +67,7 @@ pub fn edge_fault(v: u64, e: u64, k: u64, a: u64, b: u64) -> Result<(), Refusal>
 
 // The graph after the last line, or why the text is refused there.
 pub fn end_fault(g: Option<Graph>) -> Result<Graph, Refusal>
-    ensures { ended result ≡ end_of (state_of g) }
+    ensures { (ended result ≡ end_of (state_of g)) × IfOk result (λ h. g ≡ Some h) }
 {
     let g = g.ok_or(Refusal::Order)?;
     if g.lines != g.edges {
