@@ -66,14 +66,14 @@ fn start(n: u64, m: u64, words: &[u64], table: &mut [u64], text: &mut [u8]) -> S
     requires { Startable n m words.now table.old × (longest_head ≤ length text.old) }
     ensures { Started n m words.now table.new text.new result }
 {
-    differences::differences(n, m, words, table);
+    // A table that was read is legal, so that its differences are not refused.
+    let _ = differences::differences(n, m, words, table);
     let o = opening::open(Degree::Two, n, m, table, Place(0));
-    let first = o.record;
     let used = listing::put_head(text, n, m);
     Session {
         n,
         m,
-        record: first,
+        record: o.record,
         points: 0,
         additions: 0,
         found: 0,
@@ -104,11 +104,7 @@ pub fn begin(input: &[u8], words: &mut [u64], table: &mut [u64], text: &mut [u8]
 fn ended(stop: Stop) -> bool
     ensures { result ≡ is_ended stop }
 {
-    match stop {
-        Stop::Ended => true,
-        Stop::Full(_) => false,
-        Stop::Spent(_) => false,
-    }
+    stop == Stop::Ended
 }
 
 // What a call did is added and its points are listed; after the last call the totals too.
@@ -116,35 +112,21 @@ fn tell(s: Session, record: Record, report: Report, points: &[u64], text: &mut [
     requires { Tellable s report points.now text.old }
     ensures { Told s «record» report points.now text.old text.new result }
 {
-    let stop = report.stop;
-    let additions = s.additions + report.additions;
-    let found = s.found + report.found;
-    let place = s.points + report.points;
-    let over = ended(stop);
     let used = listing::put_layouts(text, s.n, points);
-    if !over {
-        return Session {
-            n: s.n,
-            m: s.m,
-            record,
-            points: place,
-            additions,
-            found,
-            used,
-            open: true,
-        };
-    }
-    let last = listing::put_totals(text, used, place, additions, found);
-    Session {
-        n: s.n,
-        m: s.m,
+    let told = Session {
         record,
-        points: place,
-        additions,
-        found,
-        used: last,
-        open: false,
+        points: s.points + report.points,
+        additions: s.additions + report.additions,
+        found: s.found + report.found,
+        used,
+        open: !ended(report.stop),
+        ..s
+    };
+    if told.open {
+        return told;
     }
+    let last = listing::put_totals(text, used, told.points, told.additions, told.found);
+    Session { used: last, ..told }
 }
 
 // One call of the search, of at most budget points: the text has a line for each layout that it found, and after the last call the totals.
@@ -153,25 +135,19 @@ pub fn next(s: Session, table: &[u64], budget: u64, list: &mut [u64], text: &mut
     ensures { Went table.now s text.new result
         × Stepped table.now s budget list.old list.new text.old text.new result }
 {
-    let r = s.record;
-    let o = search::search(Degree::Two, s.n, s.m, table, r, budget, list);
-    let answer = o.answer;
+    let o = search::search(Degree::Two, s.n, s.m, table, s.record, budget, list);
     let record = o.record;
-    match answer {
+    match o.answer {
         Ok(report) => {
             let k = report.found as usize;
             tell(s, record, report, &list[..k], text)
         }
         // No call on a session's own record is refused.
         Err(_) => Session {
-            n: s.n,
-            m: s.m,
             record,
-            points: s.points,
-            additions: s.additions,
-            found: s.found,
             used: 0,
             open: false,
+            ..s
         },
     }
 }

@@ -1,4 +1,5 @@
 -- What is told at the end: nothing, or what the walk told, once all was taken.
+use Rattle.std.specs.Prelude.{Some, None, is_some}
 use mathlib.Core.Path.{◌≡◌, sym, ap, ap₂, ◌∙◌}
 use mathlib.Core.Bool.{Bool, true, false, ◌&&◌}
 use mathlib.Core.List.{List, ◌++◌}
@@ -18,26 +19,27 @@ use Rattle.endings.specs.declared.Ending.{Ending}
 use Rattle.endings.specs.Endings.{Concludes}
 use Rattle.endings.proofs.EndLaw.{not_told, line_told}
 use Rattle.driving.specs.declared.Driven.{Driven}
+use Rattle.driving.specs.declared.Totals.{Totals}
 use Rattle.driving.specs.Driving.{Drives}
 use Rattle.sending.specs.Ending.{Ends, Walks}
 use Rattle.planner.proofs.DriveLaw.{left_none}
 
 -- ---- what is told
 -- nothing, where the output was not closed
-pub none_walked : (t : List ℕ) (s : Session) (first : ℕ) (b : List ℕ) (sent : ℕ) → Walks t s first b (record { told = 0; sent = sent; closed = false })
+pub none_walked : (t : List ℕ) (s : Session) (first : ℕ) (b : List ℕ) (sent : ℕ) → Walks t s first b (record { told = None; sent = sent; closed = false })
 none_walked t s first b sent = not_told (first + length (left_of t s)) sent (walk_told t s) b
 
-pub none_told : (input b : List ℕ) (sent : ℕ) → Ends input b (record { told = 0; sent = sent; closed = false })
+pub none_told : (input b : List ℕ) (sent : ℕ) → Ends input b (record { told = None; sent = sent; closed = false })
 none_told input b sent = not_told (length (output_of input)) sent (told_of input) b
 
 -- the head and the totals, once all was taken
-pub walked : (t : List ℕ) (s : Session) (first : ℕ) (d : Driven) (old mid b : List ℕ) (j k : ℕ) (r : Ending) → Drives t s first d → d.all ≡ true
-    → Put old 0 (head_line s.n s.m) mid j → Put mid j (totals_line d.points d.additions d.found) b k → k ≤ length old
+pub walked : (t : List ℕ) (s : Session) (first : ℕ) (d : Driven) (w : Totals) (old mid b : List ℕ) (j k : ℕ) (r : Ending) → Drives t s first d → d.totals ≡ Some w
+    → Put old 0 (head_line s.n s.m) mid j → Put mid j (totals_line w.points w.additions w.found) b k → k ≤ length old
     → Concludes k d.sent r → Walks t s first b r
 unfolding walk_told
-walked t s first d old mid b j k r h a p q l g =
-    line_told k (first + length (left_of t s)) d.sent (head_line s.n s.m ++ totals_of (trail_behind (own_table t s))) b r (sym h.all ∙ a) g
-    (omega (arith, q.size, p.size)) (q.front ∙ ap₂ (λ (x y : List ℕ). x ++ y) p.front (h.totals a))
+walked t s first d w old mid b j k r h a p q l g =
+    line_told k (first + length (left_of t s)) d.sent (head_line s.n s.m ++ totals_of (trail_behind (own_table t s))) b r (sym h.all ∙ ap is_some a) g
+    (omega (arith, q.size, p.size)) (q.front ∙ ap₂ (λ (x y : List ℕ). x ++ y) p.front (h.totals w a))
 
 -- the first text and what is left after it are as long as the output
 begun_length : (input table b : List ℕ) (s : Session) → Begun input table b s
@@ -63,6 +65,7 @@ ends_graph input table b s first c r g o e h =
     let all : first + length (left_of t s) ≡ length (output_of input) = omega (arith, begun_length input table b s g) in
     record {
       fits = h.fits;
+      some = h.some ∙ ap (λ (k : ℕ). eqb r.sent k && r.closed) all;
       told = h.told
           ∙ ap₂ (λ (k : ℕ) (l : List ℕ). line_if (eqb r.sent k && r.closed) l) all (sym (g.told ∙ ap (λ (x : Bool). told_when x (walk_told t s) (take s.used b)) o));
     }

@@ -34,15 +34,15 @@ fn walk_graph(
     let screen = progress::look(rt);
     let d = drive(rt, out, s, table, list, text, first, screen);
     progress::clear(rt, screen);
-    if !d.all {
+    let Some(totals) = d.totals else {
         return Ending {
-            told: 0,
+            told: None,
             sent: d.sent,
             closed: false,
         };
-    }
+    };
     let head = listing::put_head(text, s.n, s.m);
-    let told = listing::put_totals(text, head, d.points, d.additions, d.found);
+    let told = listing::put_totals(text, head, totals.points, totals.additions, totals.found);
     endings::concluded(rt, told, d.sent)
 }
 
@@ -65,7 +65,7 @@ pub fn run(
     let first = got as u64;
     if got < used {
         return Ending {
-            told: 0,
+            told: None,
             sent: first,
             closed: false,
         };
