@@ -33,11 +33,12 @@ returns c =
     let l = c.loop-next in
     let a = c.args in
     let end = a.at + a.n in
+    let is : l.next ≡ end = omega arith in
     let e : end - l.next ≡ 0 = omega arith in
     let n : a.at ≤ length a.text.now = omega arith in
     let m : l.next ≤ length l.text = omega arith in (
-      put_is a.text.now a.at (digits_of a.n a.x) l.text l.next l.invariant.0 n m
+      rw (← is) (put_is a.text.now a.at (digits_of a.n a.x) l.text l.next l.invariant.0 n m
           (none_left (take l.next l.text) (digits_of (end - l.next) l.rest) (digits_none (end - l.next) l.rest e) ∙ l.invariant.1)
-          l.invariant.2,
+          l.invariant.2),
       omega arith,
     )
