@@ -1,4 +1,5 @@
 // The lines of a listing, put into a text that is lent: each function answers where the next byte goes. Contracts cite specs/Listing.
+// Piece by piece: which bytes stand in a slice after the library's `write!` to it, no contract of that says.
 #![tactic(auto)]
 
 ghost use Rattle.std.specs.Prelude.{◌≡◌, ◌+◌, ◌*◌, ◌≤◌, ◌<◌, length};

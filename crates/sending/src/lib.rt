@@ -59,20 +59,21 @@ pub fn run(
     requires { (length words.old ≡ most_words) × (length table.old ≡ most_words) × (length list.old ≡ piece_entries) × (length text.old ≡ text_bytes) }
     ensures { Ends input.now text.new result }
 {
-    let s = planner::begin(input, words, table, text);
-    let used = s.used;
-    let got = streams::send(out, &text[..used]);
-    let first = got as u64;
-    if got < used {
-        return Ending {
-            told: None,
-            sent: first,
-            closed: false,
-        };
+    match planner::begin(input, words, table, text) {
+        Ok(s) => {
+            let used = s.used;
+            let got = streams::send(out, &text[..used]);
+            let first = got as u64;
+            if got < used {
+                return Ending {
+                    told: None,
+                    sent: first,
+                    closed: false,
+                };
+            }
+            let size = tables::words(s.n);
+            walk_graph(rt, out, s, &table[..size], list, text, first)
+        }
+        Err(used) => endings::deliver(rt, out, &text[..used], used),
     }
-    if !s.open {
-        return endings::concluded(rt, used, first);
-    }
-    let size = tables::words(s.n);
-    walk_graph(rt, out, s, &table[..size], list, text, first)
 }

@@ -64,7 +64,7 @@ fn rest() {
     thread::yield_now();
 }
 
-// How many tries are left after a call that failed: one fewer if it may be tried again, none otherwise.
+// How many tries are left after a call that failed: one fewer if it may be tried again, none otherwise. A count, and so no `Option`.
 fn tries_after(why: ErrorKind, tries: u64) -> u64
     requires { 1 ≤ tries }
     ensures { result < tries }
@@ -124,7 +124,7 @@ pub fn say(rt: &HostRuntime, words: &[u8]) {
     send(&mut to, words);
 }
 
-// A number among such words.
+// A number among such words. The library's `write!` would not try again.
 pub fn say_number(rt: &HostRuntime, n: u64) {
     let mut text = [0u8; 20];
     let k = io::decimal(n, &mut text);
