@@ -1,5 +1,5 @@
 -- The start of a session: the head and what is left of the walk of a graph's table are its whole output.
-use Rattle.std.specs.Prelude.{Result, Ok, Err, ⊥}
+use Rattle.std.specs.Prelude.{Result, Ok, Err, IsOkAnd, MatchResult}
 use mathlib.Core.Path.{◌≡◌, refl, sym, ap, ap₂, ◌∙◌}
 use mathlib.Core.Bool.{Bool, true, true≢false}
 use mathlib.Core.List.{List, ◌++◌}
@@ -35,7 +35,7 @@ use Rattle.demand.proofs.DemandLaw.{cost_all_lem}
 use Rattle.planner.specs.declared.Session.{Session}
 use Rattle.texts.specs.Text.{refusal_line, line_if}
 use Rattle.listing.specs.Listing.{layout_lines, head_line, totals_line}
-use Rattle.planner.specs.Output.{layouts_in, totals_for, written_for, output_of, told_for, told_of, own_table, totals_of, left_from, left_of, walk_told, Begins, Refuses}
+use Rattle.planner.specs.Output.{layouts_in, totals_for, written_for, output_of, told_for, told_of, own_table, totals_of, left_from, left_of, walk_told, Begins, Refuses, Begun}
 use Rattle.planner.specs.Parts.{Startable, Started}
 use Rattle.planner.proofs.GraphLaw.{zeros_layouts}
 use Rattle.planner.proofs.NextLaw.{append_none}
@@ -86,6 +86,12 @@ module _ (n m : ℕ) (words old : List ℕ) (h : Startable n m words old) where
         }
 
 -- ---- what was read
+-- a session that began, handed on
+pub begun_ok : (input table b : List ℕ) (P : Session → Type 0) (Q : Refusal → Type 0) (r : Result Session Refusal) (q : Result Session ℕ) → IsOkAnd r P
+    → MatchResult r (λ s. q ≡ Ok s) Q → ((s : Session) → P s → Begins input table b s) → Begun input table b q
+begun_ok input table b P Q (Ok s) q h e f = rw e (f s h)
+begun_ok input table b P Q (Err g) q h e f = absurd h
+
 -- a refusal is the whole output
 pub begun_refused : (input b : List ℕ) (f : Refusal) (number line used : ℕ) → answer.Refused f line ≡ answer_of (outcome_of input 462)
     → number ≡ number_of f → used ≤ length b → take used b ≡ refusal_line number line → Refuses input b used
