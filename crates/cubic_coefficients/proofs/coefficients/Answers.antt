@@ -9,13 +9,6 @@ use Rattle.tables.proofs.AnswerLaw.{entries_ready}
 use Rattle.cubic_tables.specs.Order.{cubic_count}
 use Rattle.cubic_coefficients.proofs.coefficients.Goals as goal
 
-pub coefficients_into-requires : goal.coefficients_into-requires
-coefficients_into-requires c =
-    let a = c.args in
-    let k = c.check_copy in
-    let r = entries_ready (cubic_count a.n) a.n a.m a.table.now a.coefficients.now (sym (k.ensures a.coefficients.now refl) ∙ c.in_ok-check_copy.was) in
-    (r.least, r.most, r.table.size, r.room)
-
 pub returns : goal.returns
 returns c =
     let a = c.args in
@@ -24,11 +17,3 @@ returns c =
     let d : cubic_copy a.n a.m a.table.now a.coefficients.now ≡ done = sym e ∙ c.in_ok-check_copy.was in
     let r = entries_ready (cubic_count a.n) a.n a.m a.table.now a.coefficients.now d in
     record { answer = sym d; left = c.coefficients_into.ensures a.m r.table ∙ sym (ap (λ (v : Verdict). after v a.coefficients.now (cubic_coefficients a.n a.m a.table.now)) d); number = ap code_of (sym d) }
-
-pub returns-in_err-check_copy : goal.returns-in_err-check_copy
-returns-in_err-check_copy c =
-    let a = c.args in
-    let p = err_from_is_err_and c.from_residual.result c.from_residual.ensures.1 in
-    let r : c.from_residual.result ≡ c.check_copy.result = p.1 ∙ ap Err p.2 ∙ sym c.in_err-check_copy.was in
-    let e = r ∙ c.check_copy.ensures a.coefficients.now refl in
-    record { answer = e; left = sym (ap (λ (v : Verdict). after v a.coefficients.now (cubic_coefficients a.n a.m a.table.now)) (sym e ∙ r ∙ c.in_err-check_copy.was)); number = ap code_of e }

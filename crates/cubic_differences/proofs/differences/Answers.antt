@@ -9,13 +9,6 @@ use Rattle.tables.proofs.AnswerLaw.{entries_ready}
 use Rattle.cubic_tables.specs.Order.{cubic_count}
 use Rattle.cubic_differences.proofs.differences.Goals as goal
 
-pub differences_into-requires : goal.differences_into-requires
-differences_into-requires c =
-    let a = c.args in
-    let k = c.check_copy in
-    let r = entries_ready (cubic_count a.n) a.n a.m a.coefficients.now a.table.now (sym (k.ensures a.table.now refl) ∙ c.in_ok-check_copy.was) in
-    (r.least, r.most, r.table.size, r.room)
-
 pub returns : goal.returns
 returns c =
     let a = c.args in
@@ -24,11 +17,3 @@ returns c =
     let d : cubic_copy a.n a.m a.coefficients.now a.table.now ≡ done = sym e ∙ c.in_ok-check_copy.was in
     let r = entries_ready (cubic_count a.n) a.n a.m a.coefficients.now a.table.now d in
     record { answer = sym d; left = c.differences_into.ensures a.m r.table ∙ sym (ap (λ (v : Verdict). after v a.table.now (cubic_differences a.n a.m a.coefficients.now)) d); number = ap code_of (sym d) }
-
-pub returns-in_err-check_copy : goal.returns-in_err-check_copy
-returns-in_err-check_copy c =
-    let a = c.args in
-    let p = err_from_is_err_and c.from_residual.result c.from_residual.ensures.1 in
-    let r : c.from_residual.result ≡ c.check_copy.result = p.1 ∙ ap Err p.2 ∙ sym c.in_err-check_copy.was in
-    let e = r ∙ c.check_copy.ensures a.table.now refl in
-    record { answer = e; left = sym (ap (λ (v : Verdict). after v a.table.now (cubic_differences a.n a.m a.coefficients.now)) (sym e ∙ r ∙ c.in_err-check_copy.was)); number = ap code_of e }

@@ -12,21 +12,6 @@ use Rattle.evaluation.proofs.AnswerLaw.{value_refused, value_outside, value_insi
 use Rattle.cubic_planes.proofs.ValueLaw.{values_are}
 use Rattle.cubic_evaluation.proofs.evaluate.Goals as goal
 
-pub returns-then-x-power : goal.returns-then-x-power
-returns-then-x-power c =
-    let a = c.args in
-    let d = sym c.check.ensures.answer ∙ c.in_ok-check.was in
-    let r = entries_checked (cubic_count a.n) a.n a.m a.coefficients.now d in
-    let p = c.power.ensures.0 (omega (arith, r.0)) in
-    let e = sym (value_outside (cubic_count a.n) a.n a.m a.coefficients.now a.x.0 (cubic_values a.n a.m a.coefficients.now a.x.0) d (omega (arith, p, c.if-x-power.true))) in
-    (e, tells_of (cubic_evaluate_verdict a.n a.m a.coefficients.now a.x.0) (cubic_values a.n a.m a.coefficients.now a.x.0) _ e)
-
-pub value_at-requires : goal.value_at-requires
-value_at-requires c =
-    let a = c.args in
-    let r = entries_checked (cubic_count a.n) a.n a.m a.coefficients.now (sym c.check.ensures.answer ∙ c.in_ok-check.was) in
-    (r.0, r.1.size)
-
 pub returns-in_err-check : goal.returns-in_err-check
 returns-in_err-check c =
     let a = c.args in

@@ -20,9 +20,6 @@ loop-s-init c =
     let a = c.args in let q = c.requires in
     λ m x w g. row_begun m (λ e. (cubic_at a.n a.table.now e).const) _ _ (λ e. first_begun a.n x a.list.now.at a.list.now.turn a.list.now.count g (λ k. plane_sum (cubic_at a.n a.table.now e) a.n k x)) (rw c.vector-v.ensures (const_holds a.n m a.table.now w))
 
-pub plane-requires : goal.plane-requires
-plane-requires c = let q = c.requires in (q.0, c.loop-s-test.true, q.1, q.2, q.3)
-
 pub loop-s-preserved : goal.loop-s-preserved
 loop-s-preserved c =
     let a = c.args in let q = c.requires in

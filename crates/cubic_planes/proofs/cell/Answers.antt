@@ -11,26 +11,17 @@ use Rattle.cubic_tables.proofs.HoldsLaw.{quad_holds}
 use Rattle.cubic_planes.proofs.ValueLaw.{pair_number, later_same, later_apart, cell_room, cell_entry, cell_square, next_le, cell_sum_lem}
 use Rattle.cubic_planes.proofs.cell.Goals as goal
 
-pub index-requires : goal.index-requires
-index-requires c = let q = c.requires in (q.0, omega arith, q.5.below _ q.2)
-
 pub overflow_sub-pair : goal.overflow_sub-pair
 overflow_sub-pair c = let a = c.args in let q = c.requires in omega (arith, c.index.ensures.0, pair_is a.n (get_or a.list.now.at a.t 0) (get_or a.list.now.at a.t 0))
 
 pub overflow_sub-pair-2 : goal.overflow_sub-pair-2
 overflow_sub-pair-2 c = let a = c.args in let q = c.requires in omega (arith, c.index.ensures.0, pair_is a.n (get_or a.list.now.at a.t 0) (get_or a.list.now.at a.t 0))
 
-pub key-requires : goal.key-requires
-key-requires c = let q = c.requires in (q.0, q.5.below _ (omega arith))
-
 pub overflow_sub-base : goal.overflow_sub-base
 overflow_sub-base c = let a = c.args in let q = c.requires in let o = pair_order a.n a.list.now.at a.list.now.count a.s a.t q.5 q.1 q.2 in omega (arith, (pair_number a.n (get_or a.list.now.at a.t 0) c.index.result c.index.ensures.0), row_ge a.n (get_or a.list.now.at a.t 0) (omega arith))
 
 pub overflow_add-base : goal.overflow_add-base
 overflow_add-base c = let a = c.args in let q = c.requires in omega (arith, c.key.ensures.1, c.index.ensures.1, count_le a.n q.0)
-
-pub index-k-requires : goal.index-k-requires
-index-k-requires c = let a = c.args in let q = c.requires in let o = pair_order a.n a.list.now.at a.list.now.count a.s a.t q.5 q.1 q.2 in (q.0, o.0, o.1)
 
 pub vector-seed-requires : goal.vector-seed-requires
 vector-seed-requires c = let a = c.args in let q = c.requires in omega (arith, c.index-k.ensures.1, cubic_count_low a.n, q.4)

@@ -12,9 +12,6 @@ use Rattle.cubic_tables.proofs.HoldsLaw.{lin_holds}
 use Rattle.cubic_planes.proofs.ValueLaw.{plane_sum_lem}
 use Rattle.cubic_planes.proofs.plane.Goals as goal
 
-pub overflow_add-i : goal.overflow_add-i
-overflow_add-i c = let a = c.args in let q = c.requires in omega (arith, q.4.below a.s q.1)
-
 pub vector-v-requires : goal.vector-v-requires
 vector-v-requires c = let a = c.args in let q = c.requires in omega (arith, q.4.below a.s q.1, cubic_count_low a.n, count_is a.n, q.3)
 
@@ -22,9 +19,6 @@ pub loop-t-init : goal.loop-t-init
 loop-t-init c =
     let a = c.args in let q = c.requires in
     λ m x w g. row_begun m (λ e. (cubic_at a.n a.table.now e).lin (get_or a.list.now.at a.s 0)) _ _ (λ e. none_begun _ _) (rw c.vector-v.ensures (lin_holds a.n m a.table.now w (get_or a.list.now.at a.s 0) (q.4.below a.s q.1)))
-
-pub cell-requires : goal.cell-requires
-cell-requires c = let q = c.requires in (q.0, c.loop-t.auto.t, c.loop-t-test.true, q.2, q.3, q.4)
 
 pub loop-t-preserved : goal.loop-t-preserved
 loop-t-preserved c =

@@ -4,12 +4,6 @@ use native.Mathlib.Omega.{arith}
 use Rattle.cubic_turns.proofs.LoopLaw.{row_over, row_end}
 use Rattle.cubic_turns.proofs.planes.Goals as goal
 
-pub loop-c-init : goal.loop-c-init
-loop-c-init c = λ m g old f t x w. w
-
-pub cells-requires : goal.cells-requires
-cells-requires c = let q = c.requires in let l = c.loop-c in (q.0, l.auto.c, c.loop-c-test.true, q.2, l.auto.to ∙ q.3)
-
 pub loop-c-preserved : goal.loop-c-preserved
 loop-c-preserved c =
     let a = c.args in
@@ -18,12 +12,3 @@ loop-c-preserved c =
     let b = a.b in
     let l = c.loop-c in
     λ m g old f t x w. row_over n b l.c g old _ l.auto.c c.loop-c-test.true (c.cells.ensures m g old f t x (l.invariant m g old f t x w))
-
-pub returns : goal.returns
-returns c =
-    let a = c.args in
-    let q = c.requires in
-    let n = a.n in
-    let b = a.b in
-    let l = c.loop-c in
-    λ m g old f t x w. row_end n b l.c g old l.to (omega (arith, c.requires.1, l.auto.c-end, c.loop-c-test.false)) (l.invariant m g old f t x w)

@@ -11,18 +11,12 @@ vector-requires c = omega (arith, c.requires.2, count_is c.args.n)
 pub put_entry-requires : goal.put_entry-requires
 put_entry-requires c = omega (arith, c.requires.3, count_is c.args.n)
 
-pub shift_singles-requires : goal.shift_singles-requires
-shift_singles-requires c = let q = c.requires in (q.0, q.1, q.2, omega (arith, q.3, c.put_entry.auto.table))
-
 pub loop-b-init : goal.loop-b-init
 loop-b-init c =
     let a = c.args in
     let q = c.requires in
     let n = a.n in
     λ m h g old k l s w. pair_first n g old _ w
-
-pub shift_pairs-requires : goal.shift_pairs-requires
-shift_pairs-requires c = let q = c.requires in (q.0, c.loop-b-test.true, q.1, q.2, omega (arith, q.3, c.put_entry.auto.table, c.shift_singles.auto.to, c.loop-b.auto.to))
 
 pub loop-b-preserved : goal.loop-b-preserved
 loop-b-preserved c =
@@ -31,9 +25,6 @@ loop-b-preserved c =
     let n = a.n in
     let l = c.loop-b in
     λ m h g old k y s w. pair_over n l.b g old _ c.loop-b-test.true (c.shift_pairs.ensures m h g old k y s (l.invariant m h g old k y s w))
-
-pub shape_of-to : goal.shape_of-to
-shape_of-to c = c.loop-b.auto.to ∙ c.shift_singles.auto.to ∙ c.put_entry.auto.table
 
 pub returns : goal.returns
 returns c =

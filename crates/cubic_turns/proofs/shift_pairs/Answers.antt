@@ -13,9 +13,6 @@ use Rattle.cubic_turns.specs.Parts.{sign_of}
 use Rattle.cubic_turns.proofs.LoopLaw.{legal_holds, shifted_is, pair_put, pair_end}
 use Rattle.cubic_turns.proofs.shift_pairs.Goals as goal
 
-pub loop-c-init : goal.loop-c-init
-loop-c-init c = λ m h g old k l s w. w
-
 pub loop-c-preserved : goal.loop-c-preserved
 loop-c-preserved c =
     let a = c.args in

@@ -12,9 +12,6 @@ use Rattle.cubic_turns.specs.Parts.{sign_of}
 use Rattle.cubic_turns.proofs.LoopLaw.{legal_holds, shifted_is, single_put, single_end}
 use Rattle.cubic_turns.proofs.shift_singles.Goals as goal
 
-pub loop-b-init : goal.loop-b-init
-loop-b-init c = λ m h g old k l s w. w
-
 pub vector-requires : goal.vector-requires
 vector-requires c = let q = c.requires in omega (arith, q, count_is c.args.n, c.loop-b-test.true)
 

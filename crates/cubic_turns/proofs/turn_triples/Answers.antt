@@ -9,9 +9,6 @@ loop-b-init c =
     let a = c.args in
     λ m g f t x. cubes_none a.n g a.to.now
 
-pub planes-requires : goal.planes-requires
-planes-requires c = let q = c.requires in (q.0, c.loop-b-test.true, q.1, c.loop-b.auto.to ∙ q.2)
-
 pub loop-b-preserved : goal.loop-b-preserved
 loop-b-preserved c =
     let a = c.args in
