@@ -142,12 +142,17 @@ pub(crate) fn big(
     let mut a0 = t0h;
     let mut a1 = t1h;
     let mut a2 = t2h;
-    for _k in 0..2u32 {
+    // A second call of nine, after a loop of two turns, costs a tenth: it is no longer part of the loop's code.
+    let mut left: u32 = 2;
+    loop {
         y = nine(y, a0, a1, top, list);
+        if left == 0 {
+            return y;
+        }
         y = raise_slot(y, 2, a2);
         a0 = top.t02;
         a1 = top.t12;
         a2 = top.t22;
+        left -= 1;
     }
-    nine(y, a0, a1, top, list)
 }

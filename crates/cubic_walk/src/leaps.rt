@@ -4,14 +4,14 @@ ghost use Rattle.cubic_moves.specs.Moves.{Sized};
 ghost use Rattle.cubic_blocks.specs.Parts.{whole};
 ghost use Rattle.cubic_walk.specs.Run.{state_of, part_of, search_of, Sane};
 
-use crate::{Ran, Walker};
+use crate::Walker;
 use blocks::Part;
 use cubic_blocks::{all_keys, block27, keys};
 use trits::Vector;
-use walk::{ready, room};
+use walk::{Ran, ready, room};
 
 // The parts that move inside blocks.
-fn opened(r: Ran) -> Part
+fn opened(r: Ran<Walker>) -> Part
     ensures { result ≡ part_of r }
 {
     let w = r.walker;
@@ -27,7 +27,7 @@ fn opened(r: Ran) -> Part
 }
 
 // The walker again, from the parts, the slots from 3 on and the second slots.
-fn closed(x: Part, mut rest: [Vector; 20], seconds: [u64; 420]) -> Ran
+fn closed(x: Part, mut rest: [Vector; 20], seconds: [u64; 420]) -> Ran<Walker>
     ensures { (l : List ℕ) → state_of result l ≡ whole x (drop 3 rest) seconds l }
 {
     rest[0] = x.s0;
@@ -47,7 +47,14 @@ fn closed(x: Part, mut rest: [Vector; 20], seconds: [u64; 420]) -> Ran
 
 // As many blocks of 27 as there is room for, up to a place with one position; none where the place is not above 0 or 27 does not
 // divide it.
-pub(crate) fn leaps(table: &[u64], n: usize, end: u64, r: Ran, budget: u64, list: &mut [u64]) -> Ran
+pub(crate) fn leaps(
+    table: &[u64],
+    n: usize,
+    end: u64,
+    r: Ran<Walker>,
+    budget: u64,
+    list: &mut [u64],
+) -> Ran<Walker>
     requires sized { Sized table.now n end }
     requires sane_2 { Sane end r list.old }
     ensures state { search_of table.now n end (budget - (result.walker.place - r.walker.place)) (state_of result list.new) ≡ search_of table.now n end budget (state_of r list.old) }

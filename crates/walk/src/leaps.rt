@@ -25,7 +25,7 @@ pub fn ready(n: usize, place: u64) -> bool
 }
 
 // The parts that move inside blocks.
-fn opened(r: Ran) -> Part
+fn opened(r: Ran<Walker>) -> Part
     ensures { result ≡ part_of r }
 {
     let w = r.walker;
@@ -41,7 +41,7 @@ fn opened(r: Ran) -> Part
 }
 
 // The walker again, from the parts and the slots from 3 on.
-fn closed(x: Part, mut rest: [Vector; 20]) -> Ran
+fn closed(x: Part, mut rest: [Vector; 20]) -> Ran<Walker>
     ensures { (l : List ℕ) → state_of result l ≡ whole x (drop 3 rest) l }
 {
     rest[0] = x.s0;
@@ -59,7 +59,14 @@ fn closed(x: Part, mut rest: [Vector; 20]) -> Ran
 }
 
 // As many blocks of 27 as there is room for; none where the place is not above 0 or 27 does not divide it.
-pub(crate) fn leaps(table: &[u64], n: usize, end: u64, r: Ran, budget: u64, list: &mut [u64]) -> Ran
+pub(crate) fn leaps(
+    table: &[u64],
+    n: usize,
+    end: u64,
+    r: Ran<Walker>,
+    budget: u64,
+    list: &mut [u64],
+) -> Ran<Walker>
     requires sized { Sized table.now n end }
     requires sane_2 { Sane end r list.old }
     ensures state { search_of table.now n end (budget - (result.walker.place - r.walker.place)) (state_of result list.new) ≡ search_of table.now n end budget (state_of r list.old) }

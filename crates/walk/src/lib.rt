@@ -22,10 +22,10 @@ pub struct Walker {
     pub slots: [Vector; 20],
 }
 
-// A walker after some places, the additions they took and the zeros found there.
+// A walker of either degree after some places, the additions they took and the zeros found there.
 #[derive(Drop)]
-pub struct Ran {
-    pub walker: Walker,
+pub struct Ran<W> {
+    pub walker: W,
     pub additions: u64,
     pub found: usize,
 }
@@ -40,7 +40,14 @@ fn lead(place: u64, budget: u64) -> u64
 
 // At most budget places, up to end or a full list. Every zero's point is listed, from the front of list; the rest of list stays.
 // The crate above has checked the sizes, so they are required here.
-pub fn run(table: &[u64], n: usize, end: u64, w: Walker, budget: u64, list: &mut [u64]) -> Ran
+pub fn run(
+    table: &[u64],
+    n: usize,
+    end: u64,
+    w: Walker,
+    budget: u64,
+    list: &mut [u64],
+) -> Ran<Walker>
     requires sized { Sized table.now n end }
     requires place_le_end { w.place ≤ end }
     ensures state { state_of result list.new ≡ search_of table.now n end budget (fresh w list.old) }

@@ -14,7 +14,14 @@ pub fn going(left: u64, end: u64, place: u64, len: usize, found: usize) -> bool
 }
 
 // At most budget places, one by one, up to end or a full list. Nothing is copied from place to place.
-pub(crate) fn steps(table: &[u64], n: usize, end: u64, r: Ran, budget: u64, list: &mut [u64]) -> Ran
+pub(crate) fn steps(
+    table: &[u64],
+    n: usize,
+    end: u64,
+    r: Ran<Walker>,
+    budget: u64,
+    list: &mut [u64],
+) -> Ran<Walker>
     requires sized { Sized table.now n end }
     requires sane_2 { Sane end r list.old }
     ensures state { state_of result list.new ≡ search_of table.now n end budget (state_of r list.old) }

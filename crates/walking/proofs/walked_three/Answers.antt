@@ -24,5 +24,5 @@ returns c =
     let x = c.run-t in
     three_leaves a.n a.m a.table.now c.requires.0 (whole_of Three a.s a.seconds.now) c.requires.1 a.budget a.end a.list.now _ x.result c.requires.2
     x.type_inv.1.1.0.1.1.1.1.0.1.0.1
-    (x.ensures.state ∙ ap (λ (y : List ℕ). search_of a.table.now a.n a.end a.budget (fresh (record { place = a.s.place.0; value = a.s.value; slots = a.s.slots; seconds = y }) a.list.now)) c.copy.ensures)
-    _ c.copy-2.ensures
+    (x.ensures.state ∙ ap (λ (y : List ℕ). search_of a.table.now a.n a.end a.budget (fresh (record { place = a.s.place.0; value = a.s.value; slots = a.s.slots; seconds = y }) a.list.now)) c.copy_from_slice.ensures.after)
+    _ c.copy_from_slice-2.ensures.after
