@@ -9,7 +9,13 @@ ghost use Rattle.table_calls.specs.Call.{evaluate_call, evaluate_after};
 use gray::Point;
 use refusals::Refusal;
 
-fn value_put(n: u64, m: u64, coefficients: &[u64], point: u64, value: &mut [u64]) -> Result<(), Refusal>
+fn value_put(
+    n: u64,
+    m: u64,
+    coefficients: &[u64],
+    point: u64,
+    value: &mut [u64],
+) -> Result<(), Refusal>
     ensures { (result ≡ evaluate_call n m coefficients.now point value.old)
         × (value.new ≡ evaluate_after n m coefficients.now point value.old) }
 {
