@@ -91,14 +91,7 @@ unfolding words_after
 told_refused o r k c ws ds e q =
     (q ∙ sym (ap call_code e), sym (ap (λ (x : Outcome). words_after x ws) e), sym (ap (λ (x : Outcome). told_after x ds) e))
 
--- two words, written one after the other
-pub two_words : (ds : List ℕ) (n m : ℕ) → length ds ≡ told_words → set (set ds 0 n) 1 m ≡ n ∷ m ∷ []
-two_words [] n m h = absurd (omega arith)
-two_words (x ∷ []) n m h = absurd (omega arith)
-two_words (x ∷ y ∷ []) n m h = refl
-two_words (x ∷ y ∷ z ∷ ds) n m h = absurd (omega arith)
-
-pub told_graph : (o : Outcome) (n m : ℕ) (es : List Ends) (ds : List ℕ) → o ≡ graph n es → length es ≡ m → length ds ≡ told_words
-    → (◌≡◌ {A = ℕ} 0 (call_code o)) × (set (set ds 0 n) 1 m ≡ told_after o ds)
-told_graph o n m es ds e l h =
-    (sym (ap call_code e), two_words ds n m h ∙ ap (λ (k : ℕ). n ∷ k ∷ []) (sym l) ∙ sym (ap (λ (x : Outcome). told_after x ds) e))
+pub told_graph : (o : Outcome) (n m : ℕ) (es : List Ends) (ds : List ℕ) → o ≡ graph n es → length es ≡ m
+    → (◌≡◌ {A = ℕ} 0 (call_code o)) × (n ∷ m ∷ [] ≡ told_after o ds)
+told_graph o n m es ds e l =
+    (sym (ap call_code e), ap (λ (k : ℕ). n ∷ k ∷ []) (sym l) ∙ sym (ap (λ (x : Outcome). told_after x ds) e))
