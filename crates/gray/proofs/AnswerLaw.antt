@@ -10,13 +10,6 @@ use Rattle.refusals.specs.Limits.{Unknowns}
 use Rattle.refusals.proofs.RefusalLaw.{done_test, unknowns_next, unknowns_done}
 use Rattle.gray.specs.Answers.{convert_verdict, point_from, place_from, told, point_told, place_told}
 
--- refusal 4, and none
-pub range_high : (n x : ℕ) → Unknowns n → 3 ^ n ≤ x → convert_verdict n x ≡ Err Range
-range_high n x w r = unknowns_next n _ w ∙ rw (le-leb (3 ^ n) x r)
-
-pub range_so : (n x : ℕ) → Unknowns n → x < 3 ^ n → convert_verdict n x ≡ done
-range_so n x w r = unknowns_next n _ w ∙ rw (lt-leb (3 ^ n) x r)
-
 -- what an answer tells is what its verdict tells
 pub point_told_lem : (v : Verdict) (x : ℕ) → point_told (point_from v x) ≡ told v x
 point_told_lem (Ok _) x = refl

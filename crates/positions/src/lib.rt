@@ -35,6 +35,7 @@ pub fn split(p: u64) -> Parts
     if p == 0 {
         return Parts { position, rest };
     }
+    // Not counted by an index: it ends at the first digit that is not 0.
     while rest % 3 == 0 {
         rest = rest / 3;
         position += 1;

@@ -1,5 +1,5 @@
 use mathlib.Core.Path.{◌≡◌}
-use Prim.Native.Nat.{ℕ, ◌-◌, ◌/◌, ◌^◌, ◌≤◌, ◌<◌}
+use Prim.Native.Nat.{ℕ, ◌/◌, ◌^◌, ◌<◌}
 use lib.ListN.{length, get_or}
 use Rattle.gray.specs.Numbers.{digit}
 use Rattle.evaluation.proofs.digits.Given as goal

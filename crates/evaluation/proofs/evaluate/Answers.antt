@@ -8,24 +8,9 @@ use Rattle.tables.specs.Monomials.{count_of}
 use Rattle.tables.specs.Words.{values_at}
 use Rattle.tables.specs.Answers.{evaluate_verdict}
 use Rattle.tables.proofs.AnswerLaw.{checked_ready}
-use Rattle.evaluation.proofs.AnswerLaw.{value_refused, value_outside, value_inside, tells_of}
+use Rattle.evaluation.proofs.AnswerLaw.{value_refused, value_inside, tells_of}
 use Rattle.evaluation.proofs.EvaluateLaw.{values_are}
 use Rattle.evaluation.proofs.evaluate.Goals as goal
-
-pub returns-then-x-power : goal.returns-then-x-power
-returns-then-x-power c =
-    let a = c.args in
-    let d = sym c.check.ensures.answer ∙ c.in_ok-check.was in
-    let r = checked_ready a.n a.m a.coefficients.now d in
-    let p = c.power.ensures.0 (omega (arith, r.0)) in
-    let e = sym (value_outside (count_of a.n) a.n a.m a.coefficients.now a.x.0 (values_at a.n a.m a.coefficients.now a.x.0) d (omega (arith, p, c.if-x-power.true))) in
-    (e, tells_of (evaluate_verdict a.n a.m a.coefficients.now a.x.0) (values_at a.n a.m a.coefficients.now a.x.0) _ e)
-
-pub value_at-requires : goal.value_at-requires
-value_at-requires c =
-    let a = c.args in
-    let r = checked_ready a.n a.m a.coefficients.now (sym c.check.ensures.answer ∙ c.in_ok-check.was) in
-    (r.0, r.1.size)
 
 pub returns-in_err-check : goal.returns-in_err-check
 returns-in_err-check c =

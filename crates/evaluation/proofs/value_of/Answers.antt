@@ -18,9 +18,6 @@ loop-s-init c =
     let a = c.args in let q = c.requires in
     λ m x w g. row_begun m (λ e. (poly_at a.n a.table.now e).const) _ _ (λ e. first_begun a.n x a.at.now a.turn.now a.count g (λ k. row_of (poly_at a.n a.table.now e) a.n k x)) (rw c.vector-v.ensures (const_holds a.n m a.table.now w))
 
-pub row_value-requires : goal.row_value-requires
-row_value-requires c = let q = c.requires in (q.0, c.loop-s-test.true, q.1, q.2, q.3)
-
 pub loop-s-preserved : goal.loop-s-preserved
 loop-s-preserved c =
     let a = c.args in let q = c.requires in

@@ -1,6 +1,5 @@
-use mathlib.Core.Path.{◌≡◌}
-use Prim.Native.Nat.{◌-◌, ◌%◌, ◌≤◌}
-use lib.ListN.{length, get_or}
+use Prim.Native.Nat.{◌%◌, ◌≤◌}
+use lib.ListN.{get_or}
 use Rattle.listed.specs.Lists.{Lists}
 use Rattle.listed.proofs.nonzero_into.Given as goal
 

@@ -3,17 +3,8 @@ use mathlib.Core.Path.{◌≡◌, ap, ◌∙◌}
 use Prim.Native.Nat.{ℕ}
 use native.Mathlib.Omega.{arith}
 use lib.ListN.{get_or}
-use Rattle.listed.proofs.ListLaw.{listed_rise, row_begun, row_more}
+use Rattle.listed.proofs.ListLaw.{listed_rise, row_more}
 use Rattle.listed.proofs.row.Goals as goal
-
-pub loop-t-init : goal.loop-t-init
-loop-t-init c = λ m n i x s h g o y z w. row_begun m s _ _ z y
-
-pub overflow_add-base : goal.overflow_add-base
-overflow_add-base c = let q = c.requires in let l = c.loop-t in omega (arith, q.from_le_count.2, (q.by_index l.t (omega arith) c.loop-t-test.true).0)
-
-pub vector-requires : goal.vector-requires
-vector-requires c = let q = c.requires in let l = c.loop-t in (q.by_index l.t (omega arith) c.loop-t-test.true).1
 
 pub loop-t-preserved : goal.loop-t-preserved
 loop-t-preserved c =

@@ -1,15 +1,7 @@
 -- `turns::turn_products` meets its contract. The invariant: the products before j are written.
-use mathlib.Core.Path.{refl, ap, ◌∙◌}
 use native.Mathlib.Omega.{arith}
-use lib.ListN.{length}
-use Rattle.turns.proofs.TurnLaw.{products_none, products_next, products_all}
-use Rattle.tables.proofs.WriteLaw.{length_put}
+use Rattle.turns.proofs.TurnLaw.{products_next, products_all}
 use Rattle.turns.proofs.turn_products.Goals as goal
-
-pub loop-j-init : goal.loop-j-init
-loop-j-init c =
-    let a = c.args in
-    λ m f g t s p. products_none a.n a.i g a.to.now
 
 pub loop-j-preserved : goal.loop-j-preserved
 loop-j-preserved c =

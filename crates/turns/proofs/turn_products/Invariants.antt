@@ -1,7 +1,6 @@
 use mathlib.Core.Path.{◌≡◌}
 use mathlib.Core.List.{List}
-use Prim.Native.Nat.{ℕ, ◌+◌, ◌-◌, ◌≤◌, ◌<◌}
-use lib.ListN.{length}
+use Prim.Native.Nat.{ℕ, ◌+◌, ◌-◌}
 use Rattle.trits.specs.Trit.{of_trits}
 use Rattle.tables.specs.Monomials.{index_of}
 use Rattle.tables.specs.Words.{Table, Written}
