@@ -30,12 +30,6 @@ twice-first-requires c =
     let l = div-le_self c.saturating_sub-rest.result a.power in
     (p.0, p.1, p.3, ap (λ (x : ℕ). x * 3) p.4 ∙ power_next a.b, omega arith)
 
-pub rows-requires : goal.rows-requires
-rows-requires c =
-    let a = c.args in
-    let p = c.requires in
-    (p.0, p.1, p.3, ap (λ (x : ℕ). x * 3) p.4 ∙ power_next a.b)
-
 pub returns : goal.returns
 returns c =
     let a = c.args in

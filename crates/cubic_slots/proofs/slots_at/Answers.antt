@@ -6,9 +6,6 @@ use Rattle.seconds.proofs.CountedLaw.{power_next, power_small}
 use Rattle.cubic_slots.proofs.SlotLaw.{filled_none, filled_next, filled_whole}
 use Rattle.cubic_slots.proofs.slots_at.Goals as goal
 
-pub loop-b-init : goal.loop-b-init
-loop-b-init c = (omega arith, filled_none _ _ _)
-
 pub overflow_mul-power : goal.overflow_mul-power
 overflow_mul-power c =
     let l = c.loop-b in

@@ -13,11 +13,6 @@ use Rattle.seconds.proofs.CountedLaw.{pair_low, power_next, power_small}
 use Rattle.seconds.proofs.FilledLaw.{filled_next}
 use Rattle.seconds.proofs.row.Goals as goal
 
-pub loop-c-init : goal.loop-c-init
-loop-c-init c =
-    let p = c.requires in
-    (p.4, λ f. f)
-
 pub overflow_sub-base : goal.overflow_sub-base
 overflow_sub-base c = omega (arith, pair_low c.args.n c.loop-c.c)
 

@@ -10,13 +10,6 @@ use Rattle.seconds.proofs.second.Goals as goal
 pub nonzero_div-y : goal.nonzero_div-y
 nonzero_div-y c = omega (arith, one-le-pow c.args.c 3 (omega arith))
 
-pub seed-v-requires : goal.seed-v-requires
-seed-v-requires c =
-    let a = c.args in
-    let p = c.requires in
-    let l = div-le_self a.rest a.power in
-    (p.0, p.1, p.2, p.3, p.4, omega arith)
-
 pub loop-d-init : goal.loop-d-init
 loop-d-init c =
     let a = c.args in
