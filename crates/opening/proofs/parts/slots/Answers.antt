@@ -10,19 +10,10 @@ use Rattle.given.proofs.TableLaw.{power_le}
 use Rattle.opening.proofs.SlotsLaw.{filled_none, filled_next, filled_whole, power_pos, power_next}
 use Rattle.opening.proofs.parts.slots.Goals as goal
 
-pub loop-b-init : goal.loop-b-init
-loop-b-init c = (refl, refl, filled_none _ _ _)
-
 pub before_move-w-requires : goal.before_move-w-requires
 before_move-w-requires c =
     let l = c.loop-b in
     omega (arith, l.invariant.0, power_pos l.b, power_le l.b (omega arith), c.requires)
-
-pub digits_at-x-requires : goal.digits_at-x-requires
-digits_at-x-requires c =
-    let l = c.loop-b in
-    let e = c.saturating_sub.ensures in
-    (c.requires.0, omega (arith, e), l.invariant.1 ∙ ap (λ (x : ℕ). 3 ^ x) (sym e))
 
 pub overflow_mul-power : goal.overflow_mul-power
 overflow_mul-power c =
