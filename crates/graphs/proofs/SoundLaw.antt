@@ -1,6 +1,6 @@
 -- What is read lies within the limits: each line that is taken keeps the state so.
 use Rattle.std.specs.Prelude.{Ok, Err}
-use mathlib.Core.Path.{◌≡◌, refl, sym, ap, ◌∙◌}
+use mathlib.Core.Path.{◌≡◌, refl, sym, ◌∙◌}
 use mathlib.Core.Bool.{Bool, true, false}
 use mathlib.Core.List.{List, [], ◌∷◌, ◌++◌}
 use mathlib.Core.Logic.{by_cases}
@@ -21,7 +21,7 @@ use Rattle.shapes.specs.Shapes.{shape_of}
 use Rattle.graphs.specs.Reading.{text_most, edges_most, words_least, State, start, declared, Turn, on, stop, problem_fault, edge_fault, full_fault, or_else, carry, take_line, Outcome, graph, refused, refuse_at, end_of, read_lines, outcome_of}
 use Rattle.graphs.specs.Edges.{Ends, has_edge, take_once}
 use Rattle.graphs.specs.Drawn.{no_ends, Edged, Drawn}
-use Rattle.graphs.specs.Scans.{ends_of, found_of}
+use Rattle.graphs.specs.Scans.{ends_of}
 use Rattle.lines.proofs.SplitLaw.{lines_few}
 use Rattle.graphs.proofs.EdgeLaw.{Among, has_among, once_again, once_new, full_fine}
 use Rattle.graphs.proofs.ReadLaw.{Declares, problem_fine, Fitting, edge_fine, read_none, read_go, read_stop, length_ends, ends_at}
@@ -164,9 +164,6 @@ text_drawn t w v es e =
     (refuse_graph (ltb w words_least) why.Length 0 _ v es (refuse_graph (ltb text_most (length t)) why.Long 0 _ v es e))
 
 -- ---- the graph that was read
-pub found_drawn : (t : List ℕ) (f : Verdict) (k v : ℕ) (es : List Ends) → found_of f k v es ≡ read_lines 1 start (lines_of t) → f ≡ done → Drawn v es
-found_drawn t f k v es e q = lines_drawn t v es (sym e ∙ ap (λ (g : Verdict). found_of g k v es) q)
-
 module _ (v k : ℕ) (xs ys : List ℕ) (d : Drawn v (ends_of k xs ys)) where
   pub ends_few : k ≤ edges_most
   ends_few = omega (arith, d.few, length_ends k xs ys)
