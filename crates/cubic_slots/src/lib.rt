@@ -80,7 +80,7 @@ pub fn slots_at(table: &[u64], n: usize, q: u64) -> [Vector; MOST_UNKNOWNS]
     requires { (n ≤ most_unknowns) × (q < 3 ^ n) × (length table.now ≡ 2 * cubic_count n) }
     ensures { CubicSlots n table.now q result }
 {
-    let mut s = [Vector { high: 0, low: 0 }; MOST_UNKNOWNS];
+    let mut s = [Vector::ZERO; MOST_UNKNOWNS];
     let mut power: u64 = 1;
     for b in 0..n {
         s[b] = slot(table, n, b, q, power);

@@ -45,7 +45,7 @@ fn slope_term(c: &[u64], n: usize, b: usize, i: usize, t: u64) -> Vector
     ensures { (m : ℕ) → Table n m c.now → Holds m (λ e. slope (poly_at n c.now e) b i * t) result }
 {
     if t == 0 {
-        return Vector { high: 0, low: 0 };
+        return Vector::ZERO;
     }
     if i < b {
         let v = tables::entry(c, n, i, b);
@@ -79,7 +79,7 @@ fn slots(c: &[u64], n: usize, q: u64) -> [Vector; MOST_UNKNOWNS]
     requires { (n ≤ most_unknowns) × (q < 2 ^ 32) × (length c.now ≡ 2 * count_of n) }
     ensures { Slots n c.now q result }
 {
-    let mut s = [Vector { high: 0, low: 0 }; MOST_UNKNOWNS];
+    let mut s = [Vector::ZERO; MOST_UNKNOWNS];
     let mut power: u64 = 1;
     let mut lower: u64 = 1;
     for b in 0..n {

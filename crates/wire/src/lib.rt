@@ -17,7 +17,7 @@ fn first_of(w: &[u64]) -> First
     requires { length w.now ≡ limits.first_words }
     ensures { result ≡ first_with w.now }
 {
-    let none = Vector { high: 0, low: 0 };
+    let none = Vector::ZERO;
     let mut slots = [none; MOST_UNKNOWNS];
     for i in 0..MOST_UNKNOWNS {
         slots[i] = Vector {
