@@ -18,8 +18,9 @@ use Rattle.graphs.specs.Edges.{Ends}
 use Rattle.graphs.specs.Reading.{Outcome, graph, outcome_of}
 use Rattle.graphs.specs.Drawn.{Drawn}
 use Rattle.graphs.proofs.SoundLaw.{text_drawn}
+use Rattle.reader.specs.declared.ReadAnswer.TheVariants as answer
 use Rattle.equations.specs.Equations.{system_of}
-use Rattle.reader.specs.Answers.{read_graph, read_refused, answer_of, words_after}
+use Rattle.reader.specs.Answers.{answer_of, words_after}
 use Rattle.reader.proofs.AnswerLaw.{graph_is, refused_is}
 use Rattle.walks.specs.Calls.{zeros_in, cost_in}
 use Rattle.given.specs.Given.{Given, quadratic, Checked}
@@ -79,7 +80,7 @@ module _ (n m : ℕ) (words old : List ℕ) (h : Startable n m words old) where
 
 -- ---- what was read
 -- a refusal is the whole output
-pub begun_refused : (input table b : List ℕ) (f : Refusal) (number line : ℕ) (r : Session) → read_refused f line ≡ answer_of (outcome_of input 462)
+pub begun_refused : (input table b : List ℕ) (f : Refusal) (number line : ℕ) (r : Session) → answer.Refused f line ≡ answer_of (outcome_of input 462)
     → number ≡ number_of f → Refuses number line b r → Begun input table b r
 unfolding output_of told_of left_of
 begun_refused input table b f number line r e q h =
@@ -117,7 +118,7 @@ left_graph input v es e =
     (ap (λ (x : ℕ). zeros_in T 0 (x - 0)) (end_is g) ∙ ap (zeros_in T 0) (none (3 ^ v)) ∙ zeros_layouts input v es e 0 (3 ^ v))
     (totals_graph input v es e)
 
-module _ (input : List ℕ) (n m : ℕ) (e : read_graph n m ≡ answer_of (outcome_of input 462)) where
+module _ (input : List ℕ) (n m : ℕ) (e : answer.Graph n m ≡ answer_of (outcome_of input 462)) where
   abbrev found : (es : List Ends) × (outcome_of input 462 ≡ graph n es) × (length es ≡ m)
   found = graph_is (outcome_of input 462) n m (sym e)
 

@@ -12,6 +12,7 @@ ghost use Rattle.planner.specs.Parts.{Refuses, Startable, Started, is_ended, Tel
 use given::Degree;
 use gray::Place;
 use opening::Record;
+use reader::ReadAnswer;
 use refusals::{MOST_UNKNOWNS, SECOND_WORDS};
 use trits::Vector;
 use walks::{Report, Stop};
@@ -86,14 +87,15 @@ pub fn begin(input: &[u8], words: &mut [u64], table: &mut [u64], text: &mut [u8]
     requires { (length words.old ≡ most_words) × (length table.old ≡ most_words) × (longest_refusal ≤ length text.old) }
     ensures { Begun input.now table.new text.new result }
 {
-    match reader::read(input, words) {
-        Err(f) => {
-            let number = refusals::number(f.why);
-            refused(number, f.line, text)
+    let answer = reader::read(input, words);
+    match answer {
+        ReadAnswer::Refused { why, line } => {
+            let number = refusals::number(why);
+            refused(number, line, text)
         }
-        Ok(s) => {
-            let size = tables::words(s.n);
-            start(s.n, s.m, &words[..size], &mut table[..size], text)
+        ReadAnswer::Graph { n, m } => {
+            let size = tables::words(n);
+            start(n, m, &words[..size], &mut table[..size], text)
         }
     }
 }
