@@ -10,6 +10,7 @@ ghost use Rattle.tables.specs.Words.{Table, differences_of, coefficients_of};
 ghost use Rattle.tables.specs.Answers.{copy_verdict, differences_after, coefficients_after};
 
 use checks::check_copy;
+use refusals::Refusal;
 use tables::{put_entry, vector};
 use turns::{product_before, turn};
 

@@ -11,7 +11,7 @@ use endings::Ending;
 use exchange::Tidied;
 use graphs::Fault;
 use std::process::ExitCode;
-use streams::{Input, Output, READER_GONE};
+use streams::{Output, READER_GONE};
 
 // The bytes of the output: as many as the longest text has.
 const OUT_BYTES: usize = 525;
@@ -78,13 +78,8 @@ fn say_counts(rt: &HostRuntime, answer: Result<Tidied, Fault>) {
     }
 }
 
-// What is to be told, or words where there is nothing; and nothing at all where the reader is gone, who knows.
-fn tell(rt: &HostRuntime, to: &Output, line: &[u8], answer: Result<Tidied, Fault>) -> ExitCode {
-    if line.len() != 0 {
-        streams::tell(line);
-        say_counts(rt, answer);
-        return ExitCode::SUCCESS;
-    }
+// Words where there is nothing to tell; and nothing at all where the reader is gone, who knows.
+fn untold(rt: &HostRuntime, to: &Output) -> ExitCode {
     if to.gone {
         return ExitCode::from(READER_GONE);
     }
@@ -98,17 +93,17 @@ fn main(rt: HostRuntime) -> ExitCode {
     let mut text = [0u8; TEXT_BYTES];
     let mut from = rt.stdin();
     let mut to = Output::new(&rt);
-    match streams::receive(&mut from, &mut buf) {
-        Input::Failed => {
-            streams::say(&rt, b"tidy: standard input could not be read\n");
+    let Ok(k) = streams::receive(&mut from, &mut buf) else {
+        streams::say(&rt, b"tidy: standard input could not be read\n");
+        return ExitCode::SUCCESS;
+    };
+    let r = run(&rt, &mut to, &buf[..k], &mut out, &mut text);
+    match r.ending.told {
+        Some(told) => {
+            streams::tell(&text[..told]);
+            say_counts(&rt, r.answer);
             ExitCode::SUCCESS
         }
-        Input::Bytes(k) => {
-            let r = run(&rt, &mut to, &buf[..k], &mut out, &mut text);
-            let ending = r.ending;
-            let answer = r.answer;
-            let told = ending.told;
-            tell(&rt, &to, &text[..told], answer)
-        }
+        None => untold(&rt, &to),
     }
 }
