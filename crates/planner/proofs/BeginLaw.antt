@@ -1,7 +1,7 @@
 -- The start of a session: the head and what is left of the walk of a graph's table are its whole output.
 use Rattle.std.specs.Prelude.{Result, Ok, Err, IsOkAnd, MatchResult}
 use mathlib.Core.Path.{◌≡◌, refl, sym, ap, ap₂, ◌∙◌}
-use mathlib.Core.Bool.{Bool, true, true≢false}
+use mathlib.Core.Bool.{Bool, true}
 use mathlib.Core.List.{List, ◌++◌}
 use Prim.Native.Nat.{ℕ, ◌-◌, ◌*◌, ◌^◌, ◌≤◌}
 use native.Mathlib.Omega.{arith}
@@ -19,9 +19,8 @@ use Rattle.graphs.specs.Edges.{Ends}
 use Rattle.graphs.specs.Reading.{Outcome, graph, outcome_of}
 use Rattle.graphs.specs.Drawn.{Drawn}
 use Rattle.graphs.proofs.SoundLaw.{text_drawn}
-use Rattle.reader.specs.declared.ReadAnswer.TheVariants as answer
 use Rattle.equations.specs.Equations.{system_of}
-use Rattle.reader.specs.Answers.{answer_of, words_after}
+use Rattle.reader.specs.Answers.{read_graph, read_refused, answer_of, words_after}
 use Rattle.reader.proofs.AnswerLaw.{graph_is, refused_is}
 use Rattle.walks.specs.Calls.{zeros_in, cost_in}
 use Rattle.given.specs.Given.{Given, quadratic, Checked}
@@ -38,7 +37,6 @@ use Rattle.listing.specs.Listing.{layout_lines, head_line, totals_line}
 use Rattle.planner.specs.Output.{layouts_in, totals_for, written_for, output_of, told_for, told_of, own_table, totals_of, left_from, left_of, walk_told, Begins, Refuses, Begun}
 use Rattle.planner.specs.Parts.{Startable, Started}
 use Rattle.planner.proofs.GraphLaw.{zeros_layouts}
-use Rattle.planner.proofs.NextLaw.{append_none}
 
 same_record : (r s : Record) → ◌≡◌ {A = Opened} (Ok r) (Ok s) → r ≡ s
 same_record r s e = cc
@@ -93,7 +91,7 @@ begun_ok input table b P Q (Ok s) q h e f = rw e (f s h)
 begun_ok input table b P Q (Err g) q h e f = absurd h
 
 -- a refusal is the whole output
-pub begun_refused : (input b : List ℕ) (f : Refusal) (number line used : ℕ) → answer.Refused f line ≡ answer_of (outcome_of input 462)
+pub begun_refused : (input b : List ℕ) (f : Refusal) (number line used : ℕ) → read_refused f line ≡ answer_of (outcome_of input 462)
     → number ≡ number_of f → used ≤ length b → take used b ≡ refusal_line number line → Refuses input b used
 unfolding output_of told_of
 begun_refused input b f number line used e q l h =
@@ -128,7 +126,7 @@ left_graph input v es e =
     (ap (λ (x : ℕ). zeros_in T 0 (x - 0)) (end_is g) ∙ ap (zeros_in T 0) (none (3 ^ v)) ∙ zeros_layouts input v es e 0 (3 ^ v))
     (totals_graph input v es e)
 
-module _ (input : List ℕ) (n m : ℕ) (e : answer.Graph n m ≡ answer_of (outcome_of input 462)) where
+module _ (input : List ℕ) (n m : ℕ) (e : read_graph n m ≡ answer_of (outcome_of input 462)) where
   abbrev found : (es : List Ends) × (outcome_of input 462 ≡ graph n es) × (length es ≡ m)
   found = graph_is (outcome_of input 462) n m (sym e)
 

@@ -10,9 +10,10 @@ ghost use Rattle.planner.specs.Output.{Standing, Begun, Went, Stepped};
 ghost use Rattle.planner.specs.Parts.{Startable, Started, is_ended, Tellable, Told};
 
 use given::Degree;
+use graphs::Fault;
 use gray::Place;
 use opening::Record;
-use reader::ReadAnswer;
+use reader::Sizes;
 use refusals::Refusal;
 use walks::{Report, Stop};
 
@@ -66,11 +67,11 @@ pub fn begin(
     ensures { Begun input.now table.new text.new result }
 {
     match reader::read(input, words) {
-        ReadAnswer::Refused { why, line } => {
+        Err(Fault { why, line }) => {
             let number = refusals::number(why);
             Err(texts::put_refusal(text, number, line))
         }
-        ReadAnswer::Graph { n, m } => {
+        Ok(Sizes { n, m }) => {
             let size = tables::words(n);
             start(n, m, &words[..size], &mut table[..size], text).map_err(|_| 0)
         }

@@ -13,41 +13,41 @@ use Rattle.planner.proofs.begin.Goals as goal
 
 pub words-size-requires : goal.words-size-requires
 words-size-requires c =
-    let e = sym c.in-Graph.is ∙ c.read.ensures.0 ∙ ap (λ (w : ℕ). answer_of (outcome_of c.args.input.now w)) c.requires.0 in
+    let e = sym c.in-Ok.is ∙ c.read.ensures.0 ∙ ap (λ (w : ℕ). answer_of (outcome_of c.args.input.now w)) c.requires.0 in
     (least c.args.input.now _ _ e, most c.args.input.now _ _ e)
 
-pub slice_bounds-start-end-in-Graph : goal.slice_bounds-start-end-in-Graph
-slice_bounds-start-end-in-Graph c = sym (length-take-le c.words-size.result c.read.new.words (omega (arith, c.words-size.ensures.1, c.read.auto.words, c.requires.0)))
+pub slice_bounds-start-end-in-Ok : goal.slice_bounds-start-end-in-Ok
+slice_bounds-start-end-in-Ok c = sym (length-take-le c.words-size.result c.read.new.words (omega (arith, c.words-size.ensures.1, c.read.auto.words, c.requires.0)))
 
-pub slice_bounds-start-end-in-Graph-3 : goal.slice_bounds-start-end-in-Graph-3
-slice_bounds-start-end-in-Graph-3 c = sym (length-take-le c.words-size.result c.args.table.now (omega (arith, c.words-size.ensures.1, c.requires.1)))
+pub slice_bounds-start-end-in-Ok-3 : goal.slice_bounds-start-end-in-Ok-3
+slice_bounds-start-end-in-Ok-3 c = sym (length-take-le c.words-size.result c.args.table.now (omega (arith, c.words-size.ensures.1, c.requires.1)))
 
 pub start-requires : goal.start-requires
 start-requires c =
     let r = c.read in
     let x = c.args.input.now in
     let k = c.words-size in
-    let e = sym c.in-Graph.is ∙ r.ensures.0 ∙ ap (λ (w : ℕ). answer_of (outcome_of x w)) c.requires.0 in
+    let e = sym c.in-Ok.is ∙ r.ensures.0 ∙ ap (λ (w : ℕ). answer_of (outcome_of x w)) c.requires.0 in
     let q = r.ensures.1 ∙ ap (λ (w : ℕ). words_after (outcome_of x w) c.args.words.now) c.requires.0 in
     let l = length-take-le k.result c.args.table.now (omega (arith, k.ensures.1, c.requires.1)) in (
-      rw k.ensures.0 (startable x _ _ e c.args.words.now r.new.words (take (2 * count_of c.in-Graph.n) c.args.table.now) q (rw k.ensures.0 at (l ∙ k.ensures.0))),
+      rw k.ensures.0 (startable x _ _ e c.args.words.now r.new.words (take (2 * count_of c.in-Ok.field-0.n) c.args.table.now) q (rw k.ensures.0 at (l ∙ k.ensures.0))),
       omega (arith, c.requires.2),
     )
 
-pub returns-in-Refused : goal.returns-in-Refused
-returns-in-Refused c =
+pub returns-in-Err : goal.returns-in-Err
+returns-in-Err c =
     let x = c.args.input.now in
     let p = c.put_refusal in
     begun_refused x p.new.text _ _ _ p.result
-    (sym c.in-Refused.is ∙ c.read.ensures.0 ∙ ap (λ (w : ℕ). answer_of (outcome_of x w)) c.requires.0)
+    (sym c.in-Err.is ∙ c.read.ensures.0 ∙ ap (λ (w : ℕ). answer_of (outcome_of x w)) c.requires.0)
     c.number-number.ensures.0 (omega (arith, p.ensures.0.size, p.ensures.1, c.requires.2)) p.ensures.0.front
 
-pub returns-in-Graph : goal.returns-in-Graph
-returns-in-Graph c =
+pub returns-in-Ok : goal.returns-in-Ok
+returns-in-Ok c =
     let r = c.read in
     let x = c.args.input.now in
     let k = c.words-size in
-    let e = sym c.in-Graph.is ∙ r.ensures.0 ∙ ap (λ (w : ℕ). answer_of (outcome_of x w)) c.requires.0 in
+    let e = sym c.in-Ok.is ∙ r.ensures.0 ∙ ap (λ (w : ℕ). answer_of (outcome_of x w)) c.requires.0 in
     let q = r.ensures.1 ∙ ap (λ (w : ℕ). words_after (outcome_of x w) c.args.words.now) c.requires.0 in
     let t = c.start in
     let l = length-take-le k.result c.args.table.now (omega (arith, k.ensures.1, c.requires.1)) in
