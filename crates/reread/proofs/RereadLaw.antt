@@ -38,7 +38,7 @@ text_is v es = refl
 
 -- a p line within the limits is taken
 declares : (v e : ℕ) → 1 ≤ v → v ≤ vertices_most → 1 ≤ e → e ≤ lines_most → take_line start (Problem v e) ≡ on (declared v e 0 [])
-declares v e a b c d = sym (first_problem {q = false} v e 0 [] refl v e fine)
+declares v e a b c d = sym (first_problem v e fine)
   where
     fine : problem_fault v e ≡ done
     fine = rw (le-ltb v 1 a, le-ltb vertices_most v b, le-ltb e 1 c, le-ltb lines_most e d)

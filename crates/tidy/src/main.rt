@@ -8,7 +8,8 @@ ghost use Rattle.reread.specs.Reread.{tidy_most};
 ghost use Rattle.tidy.specs.Output.{Runs};
 
 use endings::Ending;
-use exchange::TidyAnswer;
+use exchange::Tidied;
+use graphs::Fault;
 use std::process::ExitCode;
 use streams::{Output, READER_GONE};
 
@@ -22,7 +23,7 @@ const TEXT_BYTES: usize = 64;
 #[derive(Drop)]
 struct Ran {
     ending: Ending,
-    answer: TidyAnswer,
+    answer: Result<Tidied, Fault>,
 }
 
 // The whole output for an input, and its end.
@@ -32,15 +33,15 @@ fn run(rt: &HostRuntime, to: &mut Output, input: &[u8], out: &mut [u8], text: &m
 {
     let answer = exchange::tidy(input, out);
     match answer {
-        TidyAnswer::Tidied { bytes, .. } => {
-            let used = bytes as usize;
+        Ok(t) => {
+            let used = t.bytes as usize;
             let told = texts::put(text, 0, b"ended\n");
             let ending = endings::deliver(rt, to, &out[..used], told);
             Ran { ending, answer }
         }
-        TidyAnswer::Refused { why, line } => {
-            let number = refusals::number(why);
-            let told = texts::put_refusal(text, number, line);
+        Err(f) => {
+            let number = refusals::number(f.why);
+            let told = texts::put_refusal(text, number, f.line);
             let ending = endings::deliver(rt, to, &text[..told], told);
             Ran { ending, answer }
         }
@@ -58,30 +59,22 @@ fn say(rt: &HostRuntime, count: u64, one: &[u8], many: &[u8]) {
 }
 
 // What the text had, in a sentence.
-fn say_counts(rt: &HostRuntime, answer: TidyAnswer) {
-    match answer {
-        TidyAnswer::Tidied {
-            comments,
-            repeated,
-            turned,
-            ..
-        } => {
-            streams::say(rt, b"tidy: the text had ");
-            say(rt, comments, b" comment line, ", b" comment lines, ");
-            say(
-                rt,
-                repeated,
-                b" repeated edge and ",
-                b" repeated edges and ",
-            );
-            say(
-                rt,
-                turned,
-                b" line with the larger vertex first\n",
-                b" lines with the larger vertex first\n",
-            );
-        }
-        TidyAnswer::Refused { .. } => {}
+fn say_counts(rt: &HostRuntime, answer: Result<Tidied, Fault>) {
+    if let Ok(t) = answer {
+        streams::say(rt, b"tidy: the text had ");
+        say(rt, t.comments, b" comment line, ", b" comment lines, ");
+        say(
+            rt,
+            t.repeated,
+            b" repeated edge and ",
+            b" repeated edges and ",
+        );
+        say(
+            rt,
+            t.turned,
+            b" line with the larger vertex first\n",
+            b" lines with the larger vertex first\n",
+        );
     }
 }
 
