@@ -50,9 +50,9 @@ use Rattle.given.proofs.TableLaw.{checked_if}
 use Rattle.given.proofs.ValuesLaw.{value_agree, cubic_agree}
 use Rattle.operations.specs.Operations.{packing, packed_into, copying, differences_into}
 use Rattle.opening.specs.declared.Record.{Record}
-use Rattle.opening.specs.Opened.{opened_at, no_record, open_verdict, open_of}
+use Rattle.opening.specs.Opened.{opened_at, open_verdict, open_of, record_of}
 use Rattle.opening.proofs.PlaceLaw.{two}
-use Rattle.opening.proofs.VerdictLaw.{verdict_done}
+use Rattle.opening.proofs.VerdictLaw.{verdict_done, opened_record}
 use Rattle.outcomes.specs.Search.{trail_behind}
 use Rattle.demand.specs.Session.{session_of}
 use Rattle.demand.specs.Demand.{CommonZero, from_start}
@@ -250,8 +250,8 @@ module _ (d : Degree) (n m : ℕ) (rows : List ℤ) (c t : List ℕ) (ok : packi
   opens : open_verdict g 0 ≡ done
   opens = verdict_done g 0 checked (omega arith)
 
-  opened_is : (open_of g 0).«record» ≡ opened_at g 0
-  opened_is = ap (λ (v : Verdict). after v no_record (opened_at g 0)) opens
+  opened_is : record_of (open_of g 0) ≡ opened_at g 0
+  opened_is = opened_record g 0 checked (omega arith)
 
   whole : (qs : List Request) → SaysEnded (from_start g qs).told → ListsZeros d n m rows (from_start g qs).listed
   whole qs e =

@@ -15,7 +15,7 @@ use Rattle.held.specs.Stands.{trail_of}
 use Rattle.given.specs.Given.{Given, depth_of, count_in, table_with}
 use Rattle.operations.specs.Operations.{packed_into, copying, differences_into}
 use Rattle.opening.specs.declared.Record.{Record}
-use Rattle.opening.specs.Opened.{open_verdict, open_of}
+use Rattle.opening.specs.Opened.{open_verdict, open_of, record_of}
 use Rattle.demand.specs.Session.{session_of}
 
 -- h 0 + .. + h (n - 1), over the integers
@@ -60,7 +60,7 @@ table_from d n m rows c t = table_with d n m (differences_into d n m (packed_int
 
 -- the run of calls on the record that opening at place 0 gives
 abbrev pub run_from : Given → List Request → Sums Record
-run_from g qs = session_of g (open_of g 0).«record» qs
+run_from g qs = session_of g (record_of (open_of g 0)) qs
 
 -- nothing on the way is refused, and every run whose last accepted answer is "ended" lists the zeros of the rows
 pub record FromRows (d : Degree) (n m : ℕ) (rows : List ℤ) (c t : List ℕ) : Type 0 where

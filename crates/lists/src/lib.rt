@@ -20,41 +20,23 @@ use refusals::{PIECE_ENTRIES, Refusal};
 use search::{first_for, joined, lent_words};
 use walks::{Report, Stop};
 
-fn lesser(a: usize, b: usize) -> usize
-    ensures { result ≡ min a b }
-{
-    if a < b { a } else { b }
-}
-
 // What a call did; where it was refused, nothing.
 fn did(a: Result<Report, Refusal>) -> Report
     ensures { result ≡ did_of a }
 {
-    match a {
-        Ok(r) => r,
-        Err(_) => Report {
-            stop: Stop::Ended,
-            points: 0,
-            additions: 0,
-            found: 0,
-        },
-    }
+    a.unwrap_or(Report {
+        stop: Stop::Ended,
+        points: 0,
+        additions: 0,
+        found: 0,
+    })
 }
 
 // Whether there is a next piece: places, budget and room are left.
 fn goes_on(place: u64, end: u64, left: u64, room: usize) -> bool
     ensures { GoesOn place end left room result }
 {
-    if place == end {
-        return false;
-    }
-    if left == 0 {
-        return false;
-    }
-    if room == 0 {
-        return false;
-    }
-    true
+    place != end && left > 0 && room > 0
 }
 
 // One piece: its points go by way of the words into the list, from word number `at` on.
@@ -75,11 +57,9 @@ fn part(
         × (list.new ≡ pasted list.old (8 * at) (bytes_from (found_in (table_with degree n m table.now) f.place.0 left (min (length words.old) (length list.old / 8 - at))))) }
 {
     let room = list.len() / 8 - at;
-    let c = lesser(words.len(), room);
+    let c = words.len().min(room);
     let o = reporting::ran(degree, n, m, table, f, seconds, left, &mut words[..c]);
-    let answer = o.answer;
-    let this = did(answer);
-    let k = this.found as usize;
+    let k = did(o.answer).found as usize;
     codec::encode(&words[..k], list, at);
     o
 }
@@ -108,8 +88,7 @@ fn filled(
     let mut additions: u64 = 0;
     loop {
         let o = part(degree, n, m, table, s, seconds, left, words, list, at);
-        let answer = o.answer;
-        let this = did(answer);
+        let this = did(o.answer);
         s = o.first;
         at += this.found as usize;
         left -= this.points;

@@ -13,6 +13,23 @@ use Rattle.given.proofs.TableLaw.{checked_next, refused_first}
 use Rattle.opening.specs.declared.Record.{Record}
 use Rattle.opening.specs.Opened.{Opened, opened_at, opened_by, opened_code, record_of, refused_open, open_verdict, open_of}
 
+-- ---- an answer, taken apart
+abbrev verdict_of : Opened → Verdict
+verdict_of (Ok r) = done
+verdict_of (Err f) = Err f
+
+verdict_told : (v : Verdict) (r : Record) → verdict_of (opened_by v r) ≡ v
+verdict_told (Ok _) r = refl
+verdict_told (Err f) r = refl
+
+pub opened_err : (v : Verdict) (x : Record) (f : Refusal) → opened_by v x ≡ Err f → v ≡ Err f
+opened_err v x f e = sym (verdict_told v x) ∙ ap verdict_of e
+
+pub opened_ok : (v : Verdict) (x r : Record) → opened_by v x ≡ Ok r → (v ≡ done) × (r ≡ x)
+opened_ok v x r e =
+    let d : v ≡ done = sym (verdict_told v x) ∙ ap verdict_of e in
+    (d, sym (ap record_of e) ∙ ap (λ (v : Verdict). record_of (opened_by v x)) d)
+
 module _ (g : Given) (p : ℕ) where
   -- the answer that goes with a verdict
   abbrev with : Verdict → Opened

@@ -9,7 +9,7 @@ use lib.ListN.{length}
 use borrow.Author.Tests.{eqb-true, eq-eqb, ne_eqb, not-false}
 use Rattle.refusals.specs.declared.Refusal.{Refusal}
 use Rattle.refusals.specs.declared.Refusal.TheVariants.{Size, Length}
-use Rattle.refusals.specs.Refusal.{Verdict, code_of, sized, after, done}
+use Rattle.refusals.specs.Refusal.{Verdict, number_of, code_of, sized, after, done}
 use Rattle.refusals.proofs.RefusalLaw.{code_zero, done_test, done_next, refuse_none, refused_next, refused_last, sized_within, sized_next, sized_done}
 use Rattle.refusals.specs.Limits.{Within}
 use Rattle.codec.specs.Codec.{words_in, bytes_from, pasted}
@@ -80,10 +80,6 @@ module _ (n m a b c d : ℕ) where
             ∙ refuse_none (not (eqb (c % 8) 0)) Length _ t3 ∙ refuse_none (not (eqb d 40)) Length v t4;
       }
 
-  -- the same where they were asked by themselves, with the verdict w, whose number k is 0
-  pub shapes_passed : (w : Verdict) → w ≡ sized n m (shaped n a b c d done) → (k : ℕ) → k ≡ code_of w → k ≡ 0 → Shaped
-  shapes_passed w e k i z = shapes_done (sym e ∙ code_zero w (sym i ∙ z))
-
 -- ---- what is written, by the verdict
 after_twice : (v : Verdict) (old new : List ℕ) → after v old new ≡ after v old (after v old new)
 after_twice (Ok _) old new = refl
@@ -115,11 +111,10 @@ module _ (g : Given) (rec : List ℕ) (budget : ℕ) (list answer : List ℕ) wh
   abbrev answer_by : Verdict → List ℕ
   answer_by v = after v answer (bytes_from (answer_values (3 ^ g.n) given.answer))
 
-  pub call_refused : (w : Verdict) → w ≡ sized g.n g.m (shaped g.n (length g.words) (length rec) (length list) (length answer) done) → (code_of w ≡ 0 → ⊥)
-      → Meets (code_of w) rec list answer
-  call_refused (Ok _) e h = absurd (h refl)
-  call_refused (Err f) e h =
-      let i : judged ≡ Err f = shapes_refused g.n g.m (length g.words) (length rec) (length list) (length answer) f said (sym e) in
+  pub call_refused : (f : Refusal) → sized g.n g.m (shaped g.n (length g.words) (length rec) (length list) (length answer) done) ≡ Err f
+      → Meets (number_of f) rec list answer
+  call_refused f e =
+      let i : judged ≡ Err f = shapes_refused g.n g.m (length g.words) (length rec) (length list) (length answer) f said e in
       (sym (ap code_of i), sym (ap record_by i), sym (ap list_by i), sym (ap answer_by i))
 
   pub call_done : Shaped g.n g.m (length g.words) (length rec) (length list) (length answer) → (c : ℕ) (rec' list' answer' : List ℕ)

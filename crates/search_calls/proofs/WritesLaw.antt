@@ -83,8 +83,8 @@ module _ (d : Degree) (n m : ℕ) (t rec s : List ℕ) (lent : seconds_from d s 
         }
 
     module _ (size : length rec ≡ 3720) (twenty : length o.first.slots ≡ 20) (kept : length s' ≡ lent_words d) where
-      done : search_verdict g r budget l ≡ done → Writes g rec budget list answer c rec' list' answer'
-      done q =
+      passed : search_verdict g r budget l ≡ done → Writes g rec budget list answer c rec' list' answer'
+      passed q =
           let i = parts_whole d n m t r (seconds_long rec) s lent budget (length l) q in
           let eo' = eo ∙ ap (λ (x : Record). outcome_in g x budget list) i in
           let u = report_of (trail_behind g) budget (length l) r.place.0 in
@@ -102,7 +102,7 @@ module _ (d : Degree) (n m : ℕ) (t rec s : List ℕ) (lent : seconds_from d s 
 
       by_verdict : (v : Verdict) → search_verdict g r budget l ≡ v → Writes g rec budget list answer c rec' list' answer'
       by_verdict (Err f) q = refused f q
-      by_verdict (Ok _) q = done q
+      by_verdict (Ok _) q = passed q
 
       pub writes : Writes g rec budget list answer c rec' list' answer'
       writes = by_verdict (search_verdict g r budget l) refl
