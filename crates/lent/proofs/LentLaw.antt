@@ -11,12 +11,12 @@ use lib.ListN.{length, set}
 use borrow.Author.Tests.{eqb-true, not-false}
 use Rattle.refusals.specs.declared.Refusal.{Refusal}
 use Rattle.refusals.specs.declared.Refusal.TheVariants.{Size, Length}
-use Rattle.refusals.specs.Refusal.{Verdict, code_of, refuse, after, done}
+use Rattle.refusals.specs.Refusal.{Verdict, refuse, after, done}
 use Rattle.refusals.proofs.RefusalLaw.{done_test, done_next, refuse_none, refused_next, refused_last, sized_within, sized_next, sized_done}
 use Rattle.trits.specs.declared.Vector.{Vector}
-use Rattle.gray.specs.Answers.{point_from, place_from, point_told, place_told}
-use Rattle.balanced.specs.Answers.{balanced_from, balanced_told}
-use Rattle.tables.specs.Answers.{valued, evaluated_code}
+use Rattle.gray.specs.Answers.{point_from, place_from}
+use Rattle.balanced.specs.Answers.{balanced_from}
+use Rattle.tables.specs.Answers.{valued}
 use Rattle.lent.specs.Lent.{room, single, judged, vector_words, point_put, place_put, balanced_put, value_put}
 
 -- ---- what a return says of the verdict and of what was lent
