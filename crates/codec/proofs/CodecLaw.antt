@@ -6,8 +6,8 @@ use Prim.Native.Nat.{ℕ, zero, suc, ◌+◌, ◌-◌, ◌*◌, ◌/◌, ◌%◌
 use native.Mathlib.Numerals.{add-one}
 use native.Mathlib.Omega.{arith}
 use native.Mathlib.Nat.{pow-succ', div-div-eq-div-mul}
-use lib.ListN.{length, get_or, set, take, drop, length-append, length-take, length-drop, length-set, take-append-drop}
-use lib.Seq.{drop-length, get_or-drop, get_or-take, take-suc, drop-cons, drop-drop, set_split, length-take-le, take_at, drop_at}
+use lib.ListN.{length, get_or, take, drop, length-append, length-take, length-drop, take-append-drop}
+use lib.Seq.{drop-length, get_or-drop, get_or-take, take-suc, drop-drop, length-take-le, take_at, drop_at}
 use Rattle.codec.specs.Codec.{value_of, bytes_of, word_at, words_of, bytes_from, pasted, AllBelow}
 
 pub value_nil : value_of [] ≡ 0

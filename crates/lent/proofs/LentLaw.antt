@@ -11,41 +11,16 @@ use lib.ListN.{length, set}
 use borrow.Author.Tests.{eqb-true, not-false}
 use Rattle.refusals.specs.declared.Refusal.{Refusal}
 use Rattle.refusals.specs.declared.Refusal.TheVariants.{Size, Length}
-use Rattle.refusals.specs.Refusal.{Verdict, code_of, refuse, after, done}
-use Rattle.refusals.proofs.RefusalLaw.{code_zero, done_test, done_next, refuse_none, refused_next, refused_last, sized_within, sized_next, sized_done}
+use Rattle.refusals.specs.Refusal.{Verdict, refuse, after, done}
+use Rattle.refusals.proofs.RefusalLaw.{done_test, done_next, refuse_none, refused_next, refused_last, sized_within, sized_next, sized_done}
 use Rattle.trits.specs.declared.Vector.{Vector}
-use Rattle.gray.specs.Answers.{point_from, place_from, point_told, place_told}
-use Rattle.balanced.specs.Answers.{balanced_from, balanced_told}
-use Rattle.tables.specs.Answers.{valued, evaluated_code}
+use Rattle.gray.specs.Answers.{point_from, place_from}
+use Rattle.balanced.specs.Answers.{balanced_from}
+use Rattle.tables.specs.Answers.{valued}
 use Rattle.lent.specs.Lent.{room, single, judged, vector_words, point_put, place_put, balanced_put, value_put}
 
--- ---- what every return says of the number and of what was lent
-abbrev pub Meets : {A : Type 0} → Verdict → ℕ → A → A → A → Type 0
-Meets v c now old new = (c ≡ code_of v) × (now ≡ after v old new)
-
-pub early : {A : Type 0} (w v : Verdict) → ((f : Refusal) → w ≡ Err f → v ≡ Err f) → (code_of w ≡ 0 → ⊥) → (old new : A) → Meets v (code_of w) old old new
-early (Ok _) v g h old new = absurd (h refl)
-early (Err f) v g h old new = (sym (ap code_of (g f refl)), sym (ap (λ (z : Verdict). after z old new) (g f refl)))
-
-pub kept_refused : {A : Type 0} (v : Verdict) → (code_of v ≡ 0 → ⊥) → (old new : A) → old ≡ after v old new
-kept_refused (Ok _) h old new = absurd (h refl)
-kept_refused (Err f) h old new = refl
-
-pub moved : {A : Type 0} (v u : Verdict) → v ≡ u → (c : ℕ) (now old new : A) → Meets u c now old new → Meets v c now old new
-moved v u e c now old new h = (h.0 ∙ sym (ap code_of e), h.1 ∙ sym (ap (λ (z : Verdict). after z old new) e))
-
--- an operation that asks the questions before by themselves, with the verdict w and its number c: where c is not 0 it returns,
--- else they are done, and the operation's own verdict is all that is said
-pub stopped : {A : Type 0} (ask : Verdict → Verdict) → ((f : Refusal) (v : Verdict) → ask done ≡ Err f → ask v ≡ Err f)
-    → (w : Verdict) → w ≡ ask done → (c : ℕ) → c ≡ code_of w → (c ≡ 0 → ⊥) → (u : Verdict) (old new : A) → Meets (ask u) c old old new
-stopped ask stays w e c i h u old new =
-    let q = early w (ask u) (λ f j. stays f u (sym e ∙ j)) (λ z. h (i ∙ z)) old new in
-    (i ∙ q.0, q.1)
-
-pub passed : (v w : Verdict) → w ≡ v → (c : ℕ) → c ≡ code_of w → c ≡ 0 → v ≡ done
-passed v w e c i z = sym e ∙ code_zero w (sym i ∙ z)
-
--- the same of a verdict r that is handed on: a question before, with the verdict w, refuses by f
+-- ---- what a return says of the verdict and of what was lent
+-- a question before, with the verdict w, refuses by f, and the verdict r says so
 pub refused_first : {A : Type 0} (ask : Verdict → Verdict) → ((f : Refusal) (v : Verdict) → ask done ≡ Err f → ask v ≡ Err f)
     → (w : Verdict) → w ≡ ask done → (f : Refusal) → w ≡ Err f → (r : Verdict) → r ≡ Err f → (u : Verdict) (old new : A)
     → (r ≡ ask u) × (old ≡ after (ask u) old new)
