@@ -1,6 +1,4 @@
 -- `cubic_coefficients::coefficients` meets its contract: it writes where nothing is refused.
-use Rattle.std.specs.Prelude.{Err}
-use Rattle.std.proofs.lemmas.Result.{err_from_is_err_and}
 use mathlib.Core.Path.{◌≡◌, refl, sym, ap, ◌∙◌}
 use Rattle.refusals.specs.Refusal.{Verdict, code_of, after, done}
 use Rattle.cubic_tables.specs.Words.{cubic_coefficients}

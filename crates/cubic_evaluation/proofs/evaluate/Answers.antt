@@ -8,7 +8,7 @@ use Rattle.cubic_tables.specs.Order.{cubic_count}
 use Rattle.cubic_tables.specs.Words.{cubic_values}
 use Rattle.cubic_tables.specs.Answers.{cubic_evaluate_verdict}
 use Rattle.tables.proofs.AnswerLaw.{entries_checked}
-use Rattle.evaluation.proofs.AnswerLaw.{value_refused, value_outside, value_inside, tells_of}
+use Rattle.evaluation.proofs.AnswerLaw.{value_refused, value_inside, tells_of}
 use Rattle.cubic_planes.proofs.ValueLaw.{values_are}
 use Rattle.cubic_evaluation.proofs.evaluate.Goals as goal
 

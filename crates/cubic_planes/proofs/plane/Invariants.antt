@@ -1,4 +1,4 @@
-use Prim.Native.Nat.{ℕ, ◌+◌, ◌-◌, ◌*◌, ◌≤◌}
+use Prim.Native.Nat.{ℕ, ◌+◌, ◌-◌, ◌*◌}
 use lib.ListN.{get_or}
 use Rattle.residues.specs.Sums.{sum}
 use Rattle.trits.specs.Trit.{Holds}

@@ -1,7 +1,5 @@
 -- `cubic_turns::planes` meets its contract.
-use mathlib.Core.Path.{sym, ◌∙◌}
-use native.Mathlib.Omega.{arith}
-use Rattle.cubic_turns.proofs.LoopLaw.{row_over, row_end}
+use Rattle.cubic_turns.proofs.LoopLaw.{row_over}
 use Rattle.cubic_turns.proofs.planes.Goals as goal
 
 pub loop-c-preserved : goal.loop-c-preserved

@@ -1,5 +1,5 @@
 -- `cubic_turns::shift` meets its contract.
-use mathlib.Core.Path.{refl, sym, ◌∙◌}
+use mathlib.Core.Path.{sym, ◌∙◌}
 use native.Mathlib.Omega.{arith}
 use Rattle.tables.proofs.IndexLaw.{count_is}
 use Rattle.cubic_turns.proofs.LoopLaw.{pair_over, pair_first, first_put, pair_last}

@@ -1,7 +1,5 @@
-use mathlib.Core.Path.{◌≡◌}
 use mathlib.Core.List.{List}
-use Prim.Native.Nat.{ℕ, ◌+◌, ◌-◌, ◌<◌, ◌≤◌}
-use lib.ListN.{length}
+use Prim.Native.Nat.{ℕ, ◌+◌, ◌<◌}
 use Rattle.trits.specs.Trit.{Legal}
 use Rattle.tables.specs.Monomials.{count_of, index_of}
 use Rattle.tables.specs.Words.{entry, Written}

@@ -1,13 +1,11 @@
 -- `cubic_turns::shift_pairs` meets its contract.
-use mathlib.Core.Path.{refl, ap, ◌∙◌}
+use mathlib.Core.Path.{ap, ◌∙◌}
 use Prim.Native.Nat.{◌*◌, ◌<◌}
 use native.Mathlib.Omega.{arith}
-use lib.ListN.{length}
 use Rattle.trits.specs.Trit.{trit}
 use Rattle.tables.specs.Monomials.{index_of}
 use Rattle.tables.specs.Words.{entry}
 use Rattle.tables.proofs.IndexLaw.{index_lt}
-use Rattle.tables.proofs.WriteLaw.{length_put}
 use Rattle.brackets.specs.Brackets.{brackets_at, extra_pair}
 use Rattle.cubic_turns.specs.Parts.{sign_of}
 use Rattle.cubic_turns.proofs.LoopLaw.{legal_holds, shifted_is, pair_put, pair_end}

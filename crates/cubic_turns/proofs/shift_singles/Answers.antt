@@ -1,12 +1,9 @@
 -- `cubic_turns::shift_singles` meets its contract.
-use mathlib.Core.Path.{refl, ap, ◌∙◌}
 use Prim.Native.Nat.{◌+◌, ◌*◌, ◌<◌}
 use native.Mathlib.Omega.{arith}
-use lib.ListN.{length}
 use Rattle.trits.specs.Trit.{trit}
 use Rattle.tables.specs.Words.{entry}
 use Rattle.tables.proofs.IndexLaw.{count_is}
-use Rattle.tables.proofs.WriteLaw.{length_put}
 use Rattle.brackets.specs.Brackets.{brackets_at, extra_single}
 use Rattle.cubic_turns.specs.Parts.{sign_of}
 use Rattle.cubic_turns.proofs.LoopLaw.{legal_holds, shifted_is, single_put, single_end}

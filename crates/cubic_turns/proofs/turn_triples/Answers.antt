@@ -1,5 +1,4 @@
 -- `cubic_turns::turn_triples` meets its contract.
-use mathlib.Core.Path.{sym, ◌∙◌}
 use native.Mathlib.Omega.{arith}
 use Rattle.cubic_turns.proofs.LoopLaw.{plane_over, cubes_last, cubes_none}
 use Rattle.cubic_turns.proofs.turn_triples.Goals as goal

@@ -1,10 +1,8 @@
-use mathlib.Core.Path.{◌≡◌}
 use mathlib.Core.List.{List}
-use Prim.Native.Nat.{ℕ, ◌-◌, ◌*◌, ◌≤◌}
-use lib.ListN.{length}
+use Prim.Native.Nat.{ℕ}
 use Rattle.tables.specs.Monomials.{count_of}
 use Rattle.tables.specs.Words.{Written}
-use Rattle.cubic_tables.specs.Order.{cubic_count, triple_index}
+use Rattle.cubic_tables.specs.Order.{triple_index}
 use Rattle.cubic_tables.specs.Words.{CubicTable}
 use Rattle.cubic_turns.specs.Parts.{Made}
 use Rattle.cubic_turns.proofs.turn_triples.Given as goal

@@ -1,6 +1,5 @@
 -- `cubic_tables::monomials::triples` meets its contract.
-use native.Mathlib.Omega.{arith}
-use Rattle.cubic_tables.proofs.OrderLaw.{four_le, small_le, cubes_closed}
+use Rattle.cubic_tables.proofs.OrderLaw.{cubes_closed}
 use Rattle.cubic_tables.proofs.monomials.triples.Goals as goal
 
 pub returns : goal.returns
