@@ -9,18 +9,6 @@ use lib.Seq.{get_or-set_same, get_or-set_other}
 use Rattle.cubic_tables.specs.Order.{key_of}
 use Rattle.cubic_blocks.proofs.all_keys.Goals as goal
 
-pub loop-b-init : goal.loop-b-init
-loop-b-init c = (refl, (λ i h. absurd (omega arith)))
-
-pub key-requires : goal.key-requires
-key-requires c = (c.requires, omega (arith, c.loop-b-test))
-
-pub offset_bounds-r-b : goal.offset_bounds-r-b
-offset_bounds-r-b c = omega (arith, c.loop-b-test, c.requires)
-
-pub bounds-r-b : goal.bounds-r-b
-bounds-r-b c = omega (arith, c.loop-b-test, c.requires)
-
 pub loop-b-preserved : goal.loop-b-preserved
 loop-b-preserved c =
     let l = c.loop-b in

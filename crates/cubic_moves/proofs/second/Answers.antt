@@ -26,9 +26,6 @@ pair-requires c =
     let h : 0 < a.rest = omega (arith, c.if-rest-eq0) in
     (z.0, omega arith, omega (arith, third_lt a.n a.c a.rest h z.2, c.split-f.ensures.position))
 
-pub overflow_add-e : goal.overflow_add-e
-overflow_add-e c = omega (arith, c.requires.by_index c.pair.result c.pair.ensures.1, c.well_formed.0)
-
 pub vector-t-requires : goal.vector-t-requires
 vector-t-requires c = c.requires.by_index c.pair.result c.pair.ensures.1
 

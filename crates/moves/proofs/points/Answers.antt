@@ -24,15 +24,9 @@ loop-i-init c =
     let e : 0 ≡ a.from - a.from = omega arith in
     (omega arith, refl, sym (turned_none (point_of 3 a.n) a.from a.list.now) ∙ ap (λ (k : ℕ). turned_in (point_of 3 a.n) a.from k a.list.now) e)
 
-pub bounds-list-i : goal.bounds-list-i
-bounds-list-i c = omega (arith, c.loop-i-test, c.loop-i.invariant.1, c.requires)
-
 pub point_near-requires : goal.point_near-requires
 point_near-requires c =
     (c.requires.0, c.requires.1, ap (λ (x : ℕ). 27 * x) c.point_at-first.ensures)
-
-pub bounds-list-i-in-loop-i : goal.bounds-list-i-in-loop-i
-bounds-list-i-in-loop-i c = omega (arith, c.loop-i-test, c.loop-i.invariant.1, c.requires)
 
 pub loop-i-preserved : goal.loop-i-preserved
 loop-i-preserved c =

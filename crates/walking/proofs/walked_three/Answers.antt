@@ -12,12 +12,6 @@ use Rattle.outcomes.proofs.FitsLaw.{fits_place}
 use Rattle.walking.proofs.ThreeLaw.{three_leaves}
 use Rattle.walking.proofs.walked_three.Goals as goal
 
-pub run-t-requires : goal.run-t-requires
-run-t-requires c =
-    let a = c.args in
-    let w = within (cubic a.n a.m a.table.now) c.requires.0 in
-    record { sized = record { some = w.least; small = w.most; table = (cubic_table_of a.n a.m a.table.now c.requires.0).size; end = omega (arith, c.requires.2) }; place_le_end = omega (arith, c.requires.2, fits_place (cubic a.n a.m a.table.now) (whole_of Three a.s a.seconds.now) c.requires.1) }
-
 pub returns : goal.returns
 returns c =
     let a = c.args in

@@ -7,15 +7,6 @@ use Rattle.blocks.specs.Parts.{whole, legs_of}
 use Rattle.blocks.proofs.PartLaw.{legs_more, legs_none}
 use Rattle.blocks.proofs.parts.big.Goals as goal
 
-pub loop-left-init : goal.loop-left-init
-loop-left-init c = (omega arith, refl, record { place = omega arith; found = omega arith; additions = omega arith }, (λ rest. refl))
-
-pub nine-y-requires : goal.nine-y-requires
-nine-y-requires c = omega (arith, c.loop-left.invariant.0, c.loop-left.invariant.1, c.loop-left.invariant.2, c.requires)
-
-pub shape_of-list-then-left-eq0 : goal.shape_of-list-then-left-eq0
-shape_of-list-then-left-eq0 c = omega (arith, c.nine-y.auto, c.loop-left.invariant.1)
-
 pub returns-then-left-eq0 : goal.returns-then-left-eq0
 returns-then-left-eq0 c =
     let g = c.nine-y in
@@ -28,19 +19,6 @@ returns-then-left-eq0 c =
           ∙ ap (λ (k : ℕ). legs_of k l.a0 l.a1 l.a2 a.top (whole l.y rest l.list)) (sym c.if-left-eq0.true) ∙ l.invariant.3 rest);
       went = record { place = omega (arith, c.if-left-eq0); found = omega (arith, c.if-left-eq0); additions = omega (arith, c.if-left-eq0) };
     }
-
-pub raise_slot-y-requires : goal.raise_slot-y-requires
-raise_slot-y-requires c =
-    let g = c.nine-y in
-    let l = c.loop-left in
-    let a = c.args in
-    (omega arith, omega (arith, g.ensures.went, l.invariant.0, l.invariant.2, c.requires))
-
-pub overflow_sub-left : goal.overflow_sub-left
-overflow_sub-left c = omega (arith, c.if-left-eq0)
-
-pub loop-left-smaller : goal.loop-left-smaller
-loop-left-smaller c = omega (arith, c.if-left-eq0)
 
 pub loop-left-preserved : goal.loop-left-preserved
 loop-left-preserved c =

@@ -7,18 +7,6 @@ use Rattle.blocks.specs.Parts.{whole, rows_of, nine_of}
 use Rattle.blocks.proofs.PartLaw.{rows_more, rows_none}
 use Rattle.blocks.proofs.parts.nine.Goals as goal
 
-pub loop-k-init : goal.loop-k-init
-loop-k-init c = (refl, record { place = omega arith; found = omega arith; additions = omega arith }, (λ rest. refl))
-
-pub three-y-requires : goal.three-y-requires
-three-y-requires c = omega (arith, c.loop-k.invariant.0, c.loop-k.invariant.1, c.requires, c.loop-k-test)
-
-pub raise_slot-y-requires : goal.raise_slot-y-requires
-raise_slot-y-requires c =
-    let g = c.three-y in
-    let l = c.loop-k in
-    (omega arith, omega (arith, g.ensures.went, l.invariant.1, c.requires, c.loop-k-test))
-
 pub loop-k-preserved : goal.loop-k-preserved
 loop-k-preserved c =
     let g = c.three-y in
@@ -36,9 +24,6 @@ loop-k-preserved c =
           ap (rows_of (2 - (l._k + 1)) t.t01 t.t11 t.t00 t.t01 t.t11) (m.state rest _ ∙ ap (bump 1 l.a1) (g.ensures.state rest))
           ∙ sym (rows_more t.t00 t.t01 t.t11 (2 - l._k) (2 - (l._k + 1)) l.a0 l.a1 (whole l.y rest l.list) h) ∙ l.invariant.2 rest),
     )
-
-pub three-requires : goal.three-requires
-three-requires c = omega (arith, c.loop-k.invariant.0, c.loop-k.invariant.1, c.requires, c.loop-k.auto)
 
 pub returns : goal.returns
 unfolding nine_of

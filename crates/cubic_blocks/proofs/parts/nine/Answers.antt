@@ -9,34 +9,6 @@ use Rattle.cubic_blocks.specs.Parts.{whole, three_of, rows_of, nine_of}
 use Rattle.cubic_blocks.proofs.PartLaw.{rows_more, rows_none, fits_one}
 use Rattle.cubic_blocks.proofs.parts.nine.Goals as goal
 
-pub loop-j-init : goal.loop-j-init
-loop-j-init c = (refl, record { place = omega arith; found = omega arith; additions = omega arith }, c.requires.fits, (λ rest. refl))
-
-pub three-y-requires : goal.three-y-requires
-three-y-requires c =
-    let l = c.loop-j in
-    let f = l.invariant.2 in
-    let z = c.requires.found_in_bounds in
-    record { p_in_bounds = (omega (arith, f.room0, f.pair), omega (arith, f.room0, f.low, f.one), omega (arith, f.low, f.most)); found_in_bounds = (omega (arith, l.invariant.0, l.invariant.1, c.loop-j-test, z), omega (arith, l.invariant.0, l.invariant.1, c.loop-j-test, z), omega (arith, l.invariant.0, l.invariant.1, c.loop-j-test, z)) }
-
-pub overflow_add-e : goal.overflow_add-e
-overflow_add-e c = let f = c.loop-j.invariant.2 in omega (arith, f.room1, f.pair, c.well_formed.1.0)
-
-pub overflow_add-seat : goal.overflow_add-seat
-overflow_add-seat c = let f = c.loop-j.invariant.2 in omega (arith, f.low, f.most)
-
-pub vector-requires : goal.vector-requires
-vector-requires c = let f = c.loop-j.invariant.2 in omega (arith, f.room1, f.pair)
-
-pub raise_slot-y-requires : goal.raise_slot-y-requires
-raise_slot-y-requires c =
-    let l = c.loop-j in
-    let f = l.invariant.2 in
-    (omega arith, omega (arith, f.low, f.most), omega (arith, c.three-y.ensures.went, l.invariant.0, l.invariant.1, c.loop-j-test, c.requires.found_in_bounds))
-
-pub overflow_add-q : goal.overflow_add-q
-overflow_add-q c = let f = c.loop-j.invariant.2 in omega (arith, f.low, f.most)
-
 pub loop-j-preserved : goal.loop-j-preserved
 loop-j-preserved c =
     let g = c.three-y in
@@ -58,13 +30,6 @@ loop-j-preserved c =
           ∙ ap (λ (x : Vector). bump 1 (19 + l.at) x (three_of E a.k.k0 l.at l.q (whole l.y rest l.seconds l.list))) t)
           ∙ sym (rows_more E a.k (2 - l._j) (2 - (l._j + 1)) l.at l.q (whole l.y rest l.seconds l.list) h) ∙ l.invariant.3 rest),
     )
-
-pub three-requires : goal.three-requires
-three-requires c =
-    let l = c.loop-j in
-    let f = l.invariant.2 in
-    let z = c.requires.found_in_bounds in
-    record { p_in_bounds = (omega (arith, f.room0, f.pair), omega (arith, f.room0, f.low, f.one), omega (arith, f.low, f.most)); found_in_bounds = (omega (arith, l.invariant.0, l.invariant.1, l.auto, z), omega (arith, l.invariant.0, l.invariant.1, l.auto, z), omega (arith, l.invariant.0, l.invariant.1, l.auto, z)) }
 
 pub returns : goal.returns
 unfolding nine_of
