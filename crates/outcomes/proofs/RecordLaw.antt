@@ -1,16 +1,14 @@
 -- The test of two records decides whether they are equal.
 use mathlib.Core.Path.{◌≡◌, refl, sym, ap, ap₂, ◌∙◌}
 use mathlib.Core.Bool.{Bool, true, false, ◌&&◌}
-use mathlib.Core.Logic.{◌↔◌, by_cases}
+use mathlib.Core.Logic.{◌↔◌}
 use mathlib.Core.List.{List, [], ◌∷◌}
-use Prim.Native.Nat.{ℕ, zero, suc, ◌+◌, ◌≤◌, ◌<◌}
-use native.Mathlib.Numerals.{add-one}
-use native.Mathlib.Decide.{ℕ_discrete}
+use Prim.Native.Nat.{ℕ, zero, suc}
 use native.Mathlib.Omega.{arith}
 use lib.Dec.{eqb}
 use lib.Pointwise.{pointwise}
-use lib.ListN.{length, get_or, drop, replicate, drop_of_length-le}
-use borrow.Author.Tests.{eqb-true, eq-eqb, ne_eqb}
+use lib.ListN.{length, replicate}
+use borrow.Author.Tests.{eqb-true, eq-eqb}
 use Rattle.trits.specs.declared.Vector.{Vector}
 use Rattle.trits.proofs.Bits.{and_left, and_right}
 use Rattle.given.specs.declared.Degree.TheVariants.{Two, Three}

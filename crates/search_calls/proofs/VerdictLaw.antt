@@ -10,7 +10,7 @@ use borrow.Author.Tests.{eqb-true, eq-eqb, ne_eqb, not-false}
 use Rattle.refusals.specs.declared.Refusal.{Refusal}
 use Rattle.refusals.specs.declared.Refusal.TheVariants.{Size, Length}
 use Rattle.refusals.specs.Refusal.{Verdict, number_of, code_of, sized, after, done}
-use Rattle.refusals.proofs.RefusalLaw.{code_zero, done_test, done_next, refuse_none, refused_next, refused_last, sized_within, sized_next, sized_done}
+use Rattle.refusals.proofs.RefusalLaw.{done_test, done_next, refuse_none, refused_next, refused_last, sized_within, sized_next, sized_done}
 use Rattle.refusals.specs.Limits.{Within}
 use Rattle.codec.specs.Codec.{words_in, bytes_from, pasted}
 use Rattle.given.specs.Given.{Given}

@@ -1,6 +1,6 @@
 -- `record_calls::put` meets its contract: the room is refused, then what opening refuses, or the record is written.
 use Rattle.std.specs.Prelude.{Err}
-use mathlib.Core.Path.{◌≡◌, sym, ap, ◌∙◌}
+use mathlib.Core.Path.{sym, ap, ◌∙◌}
 use lib.ListN.{length}
 use Rattle.std.proofs.lemmas.Result.{err_from_is_err_and}
 use Rattle.refusals.specs.Refusal.{Verdict, after}

@@ -1,6 +1,5 @@
 -- `opening::parts::fill` meets its contract: the parts of the record, from the coefficients that were written.
-use mathlib.Core.Path.{sym, ◌∙◌}
-use native.Mathlib.Nat.{pow-zero}
+use mathlib.Core.Path.{◌∙◌}
 use native.Mathlib.Omega.{arith}
 use lib.ListN.{get_or}
 use Rattle.given.specs.Given.{quadratic}

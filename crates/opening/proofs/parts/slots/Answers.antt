@@ -1,13 +1,12 @@
 -- `opening::parts::slots` meets its contract: after b turns the slots below b hold their changes.
-use mathlib.Core.Path.{◌≡◌, refl, sym, ap, ◌∙◌}
+use mathlib.Core.Path.{◌≡◌, ap, ◌∙◌}
 use Prim.Native.Nat.{ℕ, ◌+◌, ◌-◌, ◌*◌, ◌^◌}
 use native.Mathlib.Omega.{arith}
-use borrow.Author.Rules.{rules}
 use Rattle.positions.specs.Positions.{latest}
 use Rattle.gray.specs.Numbers.{point_digit}
 use Rattle.opening.proofs.PlaceLaw.{latest_none}
 use Rattle.given.proofs.TableLaw.{power_le}
-use Rattle.opening.proofs.SlotsLaw.{filled_none, filled_next, filled_whole, power_pos, power_next}
+use Rattle.opening.proofs.SlotsLaw.{filled_next, filled_whole, power_pos, power_next}
 use Rattle.opening.proofs.parts.slots.Goals as goal
 
 pub before_move-w-requires : goal.before_move-w-requires

@@ -1,5 +1,5 @@
 use mathlib.Core.Path.{◌≡◌}
-use Prim.Native.Nat.{◌-◌, ◌^◌, ◌≤◌}
+use Prim.Native.Nat.{◌-◌, ◌^◌}
 use Rattle.opening.proofs.SlotsLaw.{Filled}
 use Rattle.opening.proofs.parts.slots.Given as goal
 

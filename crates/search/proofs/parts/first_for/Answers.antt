@@ -1,6 +1,5 @@
 -- `search::parts::first_for` meets its contract: n by the second slots, the rest as it is.
-use mathlib.Core.Path.{refl, ap, ◌∙◌}
-use Prim.Native.Nat.{ℕ}
+use mathlib.Core.Path.{ap, ◌∙◌}
 use Rattle.outcomes.specs.First.{n_for}
 use Rattle.search.proofs.parts.first_for.Goals as goal
 
