@@ -21,6 +21,7 @@ impl Monomials for Cubic {
     }
 }
 
+// The instances of degree three, under names of their own: wrong ones are tried here (must-fail).
 // One table read, and another of `words` words to be written: all lengths come before the pairs.
 pub fn check_copy(n: u64, m: u64, from: &[u64], words: usize) -> Result<(), Refusal>
     ensures { (to : List ℕ) → length to ≡ words → result ≡ cubic_copy n m from.now to }

@@ -8,6 +8,7 @@ ghost use Rattle.cubic_tables.specs.Answers.{cubic_pack_verdict, cubic_pack_afte
 use cubic_checks::Cubic;
 use refusals::Refusal;
 
+// The instance of degree three: wrong ones are tried here (must-fail).
 // Signed rows, m times N numbers, into a table of words: `table` is written whole, or on a refusal left as it was.
 pub fn pack(n: u64, m: u64, rows: &[i8], table: &mut [u64]) -> Result<(), Refusal>
     ensures answer { result ≡ cubic_pack_verdict n m rows.now table.old }

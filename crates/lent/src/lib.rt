@@ -51,6 +51,7 @@ pub fn put_value(e: Result<Vector, Refusal>, value: &mut [u64]) -> Result<(), Re
     Ok(())
 }
 
+// A point, a place and a balanced number, one word each; a function for each, since wrong ones are tried of each (must-fail).
 pub fn put_point(a: Result<Point, Refusal>, point: &mut [u64]) -> Result<(), Refusal>
     requires { length point.old ≡ 1 }
     ensures answer { result ≡ judged a }
