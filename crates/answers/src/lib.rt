@@ -10,6 +10,7 @@ ghost use Rattle.answers.specs.Written.{answer_length, record_bytes, parts_bytes
 
 use gray::Place;
 use opening::{First, Record};
+use refusals::Refusal;
 use walks::{Report, Stop};
 
 // The bytes of an answer: five words.

@@ -10,6 +10,7 @@ ghost use Rattle.lent.specs.Lent.{room, single, point_put, place_put, balanced_p
 
 use gray::{Place, Point};
 use refusals::{Refusal, sizes_fit, unknowns_fit};
+use trits::Vector;
 
 // 1, then 2 of a result that has `count` entries and is to have `wanted`.
 pub fn room_for(n: u64, m: u64, count: usize, wanted: usize) -> Result<(), Refusal>

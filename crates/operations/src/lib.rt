@@ -8,6 +8,8 @@ ghost use Rattle.operations.specs.Operations.{packing, packed_into, copying, dif
 
 use given::Degree;
 use gray::Point;
+use refusals::Refusal;
+use trits::Vector;
 
 // Signed rows into a table of words.
 pub fn pack(degree: Degree, n: u64, m: u64, rows: &[i8], table: &mut [u64]) -> Result<(), Refusal>

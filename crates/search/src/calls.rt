@@ -12,6 +12,7 @@ use crate::walked::{Went, walked};
 use given::Degree;
 use opening::{First, Record};
 use outcomes::{Moved, Outcome, stop_of};
+use refusals::Refusal;
 use walks::Report;
 
 // The outcome of a walk from place `from` that left t.

@@ -6,6 +6,8 @@ ghost use Rattle.outcomes.specs.Search.{outcome_of, list_left, Tells};
 use crate::calls::search;
 use given::Degree;
 use opening::Record;
+use refusals::Refusal;
+use walks::Report;
 
 // One call with the record lent: it comes back moved on, or as it was where the call is refused.
 pub fn search_lent(
