@@ -18,6 +18,7 @@ use refusals::Refusal;
 use walks::{Report, Stop};
 
 // Between two calls: the walk's record, what the calls so far did, and how many bytes of the text are to be written.
+// `open` is no Option's flag: a session that is over still stands (`Went.standing`), and its counts are told.
 #[derive(Clone, Copy)]
 pub struct Session {
     pub n: u64,
