@@ -125,6 +125,7 @@ pub fn search_parts(
     ensures { (outcome_with degree result seconds.new ≡ outcome_in (table_with degree n m table.now) (whole_of degree f seconds.old) budget list.old)
         × (list.new ≡ list_in (table_with degree n m table.now) (whole_of degree f seconds.old) budget list.old) }
 {
+    // A refusal goes with the record as it was, and so not by `?`.
     let verdict = judging::judged(degree, n, m, table, f, seconds, budget, list.len() / 8);
     match verdict {
         Err(x) => Moved {

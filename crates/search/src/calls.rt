@@ -88,6 +88,7 @@ fn call(
     ensures { (outcome_with degree result seconds.new ≡ outcome_of (table_with degree n m table.now) (whole_of degree f seconds.old) budget list.old)
         × (list.new ≡ list_left (table_with degree n m table.now) (whole_of degree f seconds.old) budget list.old) }
 {
+    // A refusal goes with the record as it was, and so not by `?`.
     let verdict = judging::judged(degree, n, m, table, f, seconds, budget, list.len());
     match verdict {
         Err(x) => Moved {
