@@ -4,14 +4,12 @@
 ghost use Rattle.std.specs.Prelude.{◌≡◌, ◌≤◌, length};
 ghost use Rattle.codec.specs.Codec.{bytes_from};
 ghost use Rattle.walks.specs.Calls.{stop_number, stop_place};
-ghost use Rattle.outcomes.specs.declared.Answer.TheVariants.{Ran};
 ghost use Rattle.refusals.specs.Limits.{record_length, second_words};
 ghost use Rattle.outcomes.specs.Search.{answer_number, answer_values};
 ghost use Rattle.answers.specs.Written.{answer_length, record_bytes, parts_bytes, answer_bytes};
 
-use gray::Place;
 use opening::{First, Record};
-use outcomes::Answer;
+use refusals::Refusal;
 use walks::{Report, Stop};
 
 // The bytes of an answer: five words.
@@ -41,7 +39,7 @@ fn stop_place(end: u64, s: Stop) -> u64
 // All of b becomes the 40 bytes of an answer, of a walk that ends at place `end`.
 fn write_answer(end: u64, a: Report, b: &mut [u8])
     requires { length b.old ≡ answer_length }
-    ensures { b.new ≡ bytes_from (answer_values end (Ran a)) }
+    ensures { b.new ≡ bytes_from (answer_values end (Ok a)) }
 {
     let s = a.stop;
     let stop = stop_number(s);
@@ -54,7 +52,7 @@ fn write_answer(end: u64, a: Report, b: &mut [u8])
 // and the answer; or with a refusal nothing.
 pub fn finish_parts(
     end: u64,
-    a: Answer,
+    a: Result<Report, Refusal>,
     f: First,
     s: &[u64],
     record: &mut [u8],
@@ -66,31 +64,27 @@ pub fn finish_parts(
         × (answer.new ≡ answer_bytes end a answer.old) }
 {
     match a {
-        Answer::Ran(report) => {
+        Ok(report) => {
             wire_out::write_parts(f, s, record);
             write_answer(end, report, answer);
             0
         }
-        Answer::Refused(x) => refusals::number(x),
+        Err(x) => refusals::number(x),
     }
 }
 
 // Writes what a call gives on a walk that ends at place `end`: the record r and the answer, or with a refusal nothing.
-pub fn finish(end: u64, a: Answer, r: Record, record: &mut [u8], answer: &mut [u8]) -> u64
+pub fn finish(
+    end: u64,
+    a: Result<Report, Refusal>,
+    r: Record,
+    record: &mut [u8],
+    answer: &mut [u8],
+) -> u64
     requires { (length «record».old ≡ record_length) × (length answer.old ≡ answer_length) }
     ensures { (result ≡ answer_number a)
         × («record».new ≡ record_bytes a r «record».old)
         × (answer.new ≡ answer_bytes end a answer.old) }
 {
-    let value = r.value;
-    let slots = r.slots;
-    let f = First {
-        n: r.n,
-        m: r.m,
-        place: Place(r.place.0),
-        value,
-        slots,
-    };
-    let seconds = r.seconds;
-    finish_parts(end, a, f, &seconds, record, answer)
+    finish_parts(end, a, r.first(), &r.seconds, record, answer)
 }

@@ -9,7 +9,7 @@ use native.Mathlib.Omega.{arith}
 use lib.IntN.{ℤ, pos, negsuc, neg_ℤ, nat_abs, ◌+ℤ◌, ◌-ℤ◌, ◌*ℤ◌, +ℤ_assoc, +ℤ_comm, +ℤ_idl, +ℤ-neg_ℤ_cancel, suc_ℤ-*ℤ, zero-*ℤ, pos-ne-negsuc}
 use lib.Signed.{lt_z}
 use borrow.Author.Tests.{le-ltb}
-use Rattle.gray.specs.Numbers.{digit, number}
+use Rattle.gray.specs.Numbers.{digit}
 use Rattle.balanced.specs.Balanced.{signed_digit, balanced_of, half_of, turned, unbalanced_of}
 use Rattle.gray.proofs.DigitLaw.{digit_lt, digit_number, digits_same}
 use Rattle.balanced.proofs.TurnLaw.{turned_next, turned_lt, turned_none}

@@ -8,16 +8,9 @@ ghost use Rattle.balanced.specs.Balanced.{turned, balanced_of, unbalanced_of};
 ghost use Rattle.gray.specs.Answers.{convert_verdict, point_from, told, point_told};
 ghost use Rattle.balanced.specs.Answers.{balanced_verdict, balanced_from, balanced_told};
 
-use gray::{Point, PointAnswer, convertible};
+use gray::{Point, convertible};
 use positions::power;
-use refusals::{Refusal, Verdict, unknowns_fit};
-
-// A balanced number, or why there is none.
-#[derive(Drop)]
-pub enum BalancedAnswer {
-    At(i64),
-    Refused(Refusal),
-}
+use refusals::{Refusal, unknowns_fit};
 
 // The number of n digits, each a more than that of x modulo 3.
 fn turn(a: u64, n: u64, x: u64) -> u64
@@ -26,11 +19,9 @@ fn turn(a: u64, n: u64, x: u64) -> u64
 {
     let mut weight = power(n);
     let mut number: u64 = 0;
-    let mut i: u64 = 0;
-    while i < n {
-        weight = weight / 3;
+    for _ in 0..n {
+        weight /= 3;
         number = 3 * number + (x / weight % 3 + a) % 3;
-        i += 1;
     }
     number
 }
@@ -40,44 +31,35 @@ fn minus(a: u64, b: u64) -> i64
     requires { (a ≤ 4294967296) × (b ≤ 4294967296) }
     ensures { result ≡ pos a -ℤ pos b }
 {
-    let left = a as i64;
-    let right = b as i64;
-    left - right
+    a as i64 - b as i64
 }
 
 // The balanced number of a point of n unknowns.
-pub fn to_balanced(n: u64, x: Point) -> BalancedAnswer
+pub fn to_balanced(n: u64, x: Point) -> Result<i64, Refusal>
     ensures answer { result ≡ balanced_from (convert_verdict n x.0) (balanced_of n x.0) }
     ensures number { balanced_told result ≡ told (convert_verdict n x.0) (balanced_of n x.0) }
 {
-    let verdict = convertible(n, x.0);
-    match verdict {
-        Verdict::Refused(r) => BalancedAnswer::Refused(r),
-        Verdict::Done => {
-            let half = (power(n) - 1) / 2;
-            let raised = turn(1, n, x.0);
-            let number = minus(raised, half);
-            BalancedAnswer::At(number)
-        }
-    }
+    convertible(n, x.0)?;
+    let half = (power(n) - 1) / 2;
+    let raised = turn(1, n, x.0);
+    Ok(minus(raised, half))
 }
 
 // The point of n unknowns whose balanced number is y.
-pub fn from_balanced(n: u64, y: i64) -> PointAnswer
+pub fn from_balanced(n: u64, y: i64) -> Result<Point, Refusal>
     ensures answer { result ≡ point_from (balanced_verdict n y) (unbalanced_of n y) }
     ensures number { point_told result ≡ told (balanced_verdict n y) (unbalanced_of n y) }
 {
     if !unknowns_fit(n) {
-        return PointAnswer::Refused(Refusal::Size);
+        return Err(Refusal::Size);
     }
     let half = minus((power(n) - 1) / 2, 0);
     if y < 0 - half {
-        return PointAnswer::Refused(Refusal::Range);
+        return Err(Refusal::Range);
     }
     if y > half {
-        return PointAnswer::Refused(Refusal::Range);
+        return Err(Refusal::Range);
     }
     let raised = (y + half) as u64;
-    let point = turn(2, n, raised);
-    PointAnswer::At(Point(point))
+    Ok(Point(turn(2, n, raised)))
 }

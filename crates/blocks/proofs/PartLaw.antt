@@ -115,23 +115,17 @@ lift27 p k r h m e f =
 
 -- the rows of three that are left of nine places, and the legs of nine that are left of 27
 module _ (t00 t01 t11 : Vector) where
-  pub rows_more : (k : ℕ) (a b : Vector) (s : State) → 0 < k → rows_of k a b t00 t01 t11 s ≡ rows_of (k - 1) t01 t11 t00 t01 t11 (bump 1 b (three_of a t00 s))
+  pub rows_more : (k j : ℕ) (a b : Vector) (s : State) → k ≡ suc j → rows_of k a b t00 t01 t11 s ≡ rows_of j t01 t11 t00 t01 t11 (bump 1 b (three_of a t00 s))
   unfolding rows_of
-  rows_more zero a b s h = absurd (omega arith)
-  rows_more (suc k) a b s h =
-      let e : k ≡ suc k - 1 = omega arith in
-      ap (λ (j : ℕ). rows_of j t01 t11 t00 t01 t11 (bump 1 b (three_of a t00 s))) e
+  rows_more k j a b s e = ap (λ (i : ℕ). rows_of i a b t00 t01 t11 s) e
 
   pub rows_none : (a b : Vector) (s : State) → rows_of 0 a b t00 t01 t11 s ≡ three_of a t00 s
   unfolding rows_of
   rows_none a b s = refl
 
-pub legs_more : (k : ℕ) (a b c : Vector) (t : Top) (s : State) → 0 < k → legs_of k a b c t s ≡ legs_of (k - 1) t.t02 t.t12 t.t22 t (bump 2 c (nine_of a b t s))
+pub legs_more : (k j : ℕ) (a b c : Vector) (t : Top) (s : State) → k ≡ suc j → legs_of k a b c t s ≡ legs_of j t.t02 t.t12 t.t22 t (bump 2 c (nine_of a b t s))
 unfolding legs_of
-legs_more zero a b c t s h = absurd (omega arith)
-legs_more (suc k) a b c t s h =
-    let e : k ≡ suc k - 1 = omega arith in
-    ap (λ (j : ℕ). legs_of j t.t02 t.t12 t.t22 t (bump 2 c (nine_of a b t s))) e
+legs_more k j a b c t s e = ap (λ (i : ℕ). legs_of i a b c t s) e
 
 pub legs_none : (a b c : Vector) (t : Top) (s : State) → legs_of 0 a b c t s ≡ nine_of a b t s
 unfolding legs_of

@@ -32,19 +32,13 @@ pub fn tops(table: &[u64], n: usize) -> Top
     requires le_n { 3 ≤ n }
     ensures { result ≡ top_of (product table.now n) }
 {
-    let t00 = tables::entry(table, n, 0, 0);
-    let t01 = tables::entry(table, n, 0, 1);
-    let t11 = tables::entry(table, n, 1, 1);
-    let t02 = tables::entry(table, n, 0, 2);
-    let t12 = tables::entry(table, n, 1, 2);
-    let t22 = tables::entry(table, n, 2, 2);
     Top {
-        t00,
-        t01,
-        t11,
-        t02,
-        t12,
-        t22,
+        t00: tables::entry(table, n, 0, 0),
+        t01: tables::entry(table, n, 0, 1),
+        t11: tables::entry(table, n, 1, 1),
+        t02: tables::entry(table, n, 0, 2),
+        t12: tables::entry(table, n, 1, 2),
+        t22: tables::entry(table, n, 2, 2),
     }
 }
 
@@ -65,18 +59,16 @@ pub fn block27(
     requires found_in_bounds { (x.found + 27 ≤ length list.old) × (x.additions + 54 < 2 ^ 64) }
     ensures state { (others : List Vector) → get_or others (b - 3) none ≡ slot → b - 3 < length others → whole result.part (set others (b - 3) result.slot) list.new ≡ iterate 3 (walk_of n (product table.now n)) 27 (whole x others list.old) }
 {
-    let place = x.place;
-    let value = x.value;
-    let h = head(table, n, place, b, rest, slot, value, x.additions);
+    let h = head(table, n, x.place, b, rest, slot, x.value, x.additions);
     let t0h = tables::entry(table, n, 0, b);
     let t1h = tables::entry(table, n, 1, b);
     let t2h = tables::entry(table, n, 2, b);
-    let up = h.slot;
-    let next = h.value;
-    let mut y = x;
-    y.value = next;
-    y.additions = h.additions;
+    let y = Part {
+        value: h.value,
+        additions: h.additions,
+        ..x
+    };
     let part = big(y, t0h, t1h, t2h, top, list);
-    points(n, list, place, x.found, part.found);
-    Turned { part, slot: up }
+    points(n, list, x.place, x.found, part.found);
+    Turned { part, slot: h.slot }
 }

@@ -33,17 +33,17 @@ pub struct Top {
 }
 
 // The place is listed where the value is zero, and it is passed.
-pub fn note(mut x: Part, list: &mut [u64]) -> Part
+pub fn note(x: Part, list: &mut [u64]) -> Part
     requires { (x.found + 1 ≤ length list.old) × (x.place + 1 < 2 ^ 64) }
     ensures state { (rest : List Vector) → whole result rest list.new ≡ jot_of (whole x rest list.old) }
     ensures went { Went x result 1 0 }
 {
-    let value = x.value;
-    let place = x.place;
-    let found = jot(value, place, x.found, list);
-    x.found = found;
-    x.place = place + 1;
-    x
+    let found = jot(x.value, x.place, x.found, list);
+    Part {
+        found,
+        place: x.place + 1,
+        ..x
+    }
 }
 
 // Slot b of the three.
@@ -51,35 +51,29 @@ pub fn slot(x: Part, b: u32) -> Vector
     requires { b < 3 }
     ensures { (rest : List Vector) (l : List ℕ) → result ≡ get_or (whole x rest l).slots b none }
 {
-    if b == 0 {
-        return x.s0;
+    match b {
+        0 => x.s0,
+        1 => x.s1,
+        _ => x.s2,
     }
-    if b == 1 {
-        return x.s1;
-    }
-    x.s2
 }
 
 // The parts with what a move of slot b gave.
-pub fn after(mut x: Part, b: u32, m: Moved) -> Part
+pub fn after(x: Part, b: u32, m: Moved) -> Part
     requires { b < 3 }
     ensures state { (rest : List Vector) (l : List ℕ) → whole result rest l ≡ headed (whole x rest l) b m }
     ensures counts { (result.place ≡ x.place) × (result.found ≡ x.found) × (result.additions ≡ m.additions) }
 {
-    let up = m.slot;
-    let next = m.value;
-    x.value = next;
-    x.additions = m.additions;
-    if b == 0 {
-        x.s0 = up;
-        return x;
+    let y = Part {
+        value: m.value,
+        additions: m.additions,
+        ..x
+    };
+    match b {
+        0 => Part { s0: m.slot, ..y },
+        1 => Part { s1: m.slot, ..y },
+        _ => Part { s2: m.slot, ..y },
     }
-    if b == 1 {
-        x.s1 = up;
-        return x;
-    }
-    x.s2 = up;
-    x
 }
 
 // Slot b is brought up by t and added to the value. With a number for b the compiler keeps one of the three.
@@ -88,9 +82,7 @@ fn raise_slot(x: Part, b: u32, t: Vector) -> Part
     ensures state { (rest : List Vector) (l : List ℕ) → whole result rest l ≡ bump b t (whole x rest l) }
     ensures went { Went x result 0 2 }
 {
-    let s = slot(x, b);
-    let value = x.value;
-    let m = raise(s, value, t, x.additions);
+    let m = raise(slot(x, b), x.value, t, x.additions);
     after(x, b, m)
 }
 
@@ -121,23 +113,16 @@ fn nine(x: Part, t0h: Vector, t1h: Vector, top: Top, list: &mut [u64]) -> Part
     ensures state { (rest : List Vector) → whole result rest list.new ≡ nine_of t0h t1h top (whole x rest list.old) }
     ensures went { Went x result 9 16 }
 {
-    let t00 = top.t00;
-    let t01 = top.t01;
-    let t11 = top.t11;
     let mut y = x;
     let mut a0 = t0h;
     let mut a1 = t1h;
-    let mut left: u32 = 2;
-    loop {
-        y = three(y, a0, t00, list);
-        if left == 0 {
-            return y;
-        }
+    for _k in 0..2u32 {
+        y = three(y, a0, top.t00, list);
         y = raise_slot(y, 1, a1);
-        a0 = t01;
-        a1 = t11;
-        left -= 1;
+        a0 = top.t01;
+        a1 = top.t11;
     }
+    three(y, a0, top.t00, list)
 }
 
 // 27 places, where the first has been moved to.
@@ -153,13 +138,11 @@ pub(crate) fn big(
     ensures state { (rest : List Vector) → whole result rest list.new ≡ big_of t0h t1h t2h top (whole x rest list.old) }
     ensures went { Went x result 27 52 }
 {
-    let t02 = top.t02;
-    let t12 = top.t12;
-    let t22 = top.t22;
     let mut y = x;
     let mut a0 = t0h;
     let mut a1 = t1h;
     let mut a2 = t2h;
+    // A second call of nine, after a loop of two turns, costs a tenth: it is no longer part of the loop's code.
     let mut left: u32 = 2;
     loop {
         y = nine(y, a0, a1, top, list);
@@ -167,9 +150,9 @@ pub(crate) fn big(
             return y;
         }
         y = raise_slot(y, 2, a2);
-        a0 = t02;
-        a1 = t12;
-        a2 = t22;
+        a0 = top.t02;
+        a1 = top.t12;
+        a2 = top.t22;
         left -= 1;
     }
 }

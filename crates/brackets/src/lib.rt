@@ -38,7 +38,7 @@ pub fn prior(table: &[u64], n: usize, b: usize, k: usize) -> Vector
     ensures { (m : ℕ) → (g : List ℕ) → Known n m g (triple_index n b b b) table.now → Holds m (λ e. prev3 (brackets_at n g e) b k) result }
 {
     if b == 0 {
-        return Vector { high: 0, low: 0 };
+        return Vector::ZERO;
     }
     all(table, n, b - 1, b, k)
 }

@@ -1,12 +1,13 @@
 -- Words as bytes: reading and writing by halves, pasting one part after another, and the round trips.
-use mathlib.Core.Path.{◌≡◌, refl, sym, ap, subst, ◌∙◌}
+use Rattle.std.specs.Int.{w64, byte_at, bytes_low_first, to_le_bytes, from_le_bytes}
+use mathlib.Core.Path.{◌≡◌, refl, sym, ap, ap₂, subst, ◌∙◌}
 use mathlib.Core.List.{List, [], ◌∷◌, ◌++◌, append_assoc, append-nil}
-use Prim.Native.Nat.{ℕ, zero, suc, ◌+◌, ◌*◌, ◌/◌, ◌%◌, ◌^◌, ◌≤◌, ◌<◌}
+use Prim.Native.Nat.{ℕ, zero, suc, ◌+◌, ◌-◌, ◌*◌, ◌/◌, ◌%◌, ◌^◌, ◌≤◌, ◌<◌}
 use native.Mathlib.Numerals.{add-one}
 use native.Mathlib.Omega.{arith}
-use native.Mathlib.Nat.{pow-succ'}
-use lib.ListN.{length, get_or, set, take, drop, length-append, length-take, length-drop, length-set, take-append-drop}
-use lib.Seq.{drop-length, get_or-drop, get_or-take, take-suc, drop-cons, drop-drop, set_split, length-take-le, take_at, drop_at}
+use native.Mathlib.Nat.{pow-succ', div-div-eq-div-mul}
+use lib.ListN.{length, get_or, take, drop, length-append, length-take, length-drop, take-append-drop}
+use lib.Seq.{drop-length, get_or-drop, get_or-take, take-suc, drop-drop, length-take-le, take_at, drop_at}
 use Rattle.codec.specs.Codec.{value_of, bytes_of, word_at, words_of, bytes_from, pasted, AllBelow}
 
 pub value_nil : value_of [] ≡ 0
@@ -25,53 +26,34 @@ pub bytes_suc : (k w : ℕ) → bytes_of (suc k) w ≡ w % 256 ∷ bytes_of k (w
 unfolding bytes_of
 bytes_suc k w = refl
 
--- two, four and eight bytes from a place
-pub value_two : (l : List ℕ) (at : ℕ) → at + 2 ≤ length l → value_of (take 2 (drop at l)) ≡ get_or l at 0 + 256 * get_or l (at + 1) 0
-value_two l at h =
-    let a : at < length l = omega arith in
-    let b : suc at < length l = omega arith in
-    let z : get_or l at 0 + 256 * (get_or l (suc at) 0 + 256 * 0) ≡ get_or l at 0 + 256 * get_or l (suc at) 0 = omega arith in
-    rw (drop-cons l at 0 a, drop-cons l (suc at) 0 b, value_cons, value_cons, value_nil, add-one at) z
+-- eight bytes are the number that they stand for, and back
+pub value_eight : (l : List ℕ) → length l ≡ 8 → from_le_bytes w64 l ≡ value_of l
+unfolding value_of
+value_eight (a ∷ b ∷ c ∷ d ∷ e ∷ f ∷ g ∷ h ∷ []) n = omega arith
+value_eight [] n = absurd (omega (arith, n))
+value_eight (a ∷ []) n = absurd (omega (arith, n))
+value_eight (a ∷ b ∷ []) n = absurd (omega (arith, n))
+value_eight (a ∷ b ∷ c ∷ []) n = absurd (omega (arith, n))
+value_eight (a ∷ b ∷ c ∷ d ∷ []) n = absurd (omega (arith, n))
+value_eight (a ∷ b ∷ c ∷ d ∷ e ∷ []) n = absurd (omega (arith, n))
+value_eight (a ∷ b ∷ c ∷ d ∷ e ∷ f ∷ []) n = absurd (omega (arith, n))
+value_eight (a ∷ b ∷ c ∷ d ∷ e ∷ f ∷ g ∷ []) n = absurd (omega (arith, n))
+value_eight (a ∷ b ∷ c ∷ d ∷ e ∷ f ∷ g ∷ h ∷ i ∷ l) n = absurd (omega (arith, n))
 
--- two bytes, and what follows them
-pub value_more : (l : List ℕ) (at k : ℕ) → at + 2 ≤ length l → value_of (take (suc (suc k)) (drop at l)) ≡ value_of (take 2 (drop at l)) + 65536 * value_of (take k (drop (at + 2) l))
-value_more l at k h =
-    let a : at < length l = omega arith in
-    let b : suc at < length l = omega arith in
-    let v = value_of (take k (drop (suc (suc at)) l)) in
-    let two : at + 2 ≡ suc (suc at) = omega arith in
-    let z : get_or l at 0 + 256 * (get_or l (suc at) 0 + 256 * v) ≡ get_or l at 0 + 256 * get_or l (suc at) 0 + 65536 * v = omega arith in
-    ap (λ (m : List ℕ). value_of (take (suc (suc k)) m)) (drop-cons l at 0 a ∙ ap (λ (m : List ℕ). get_or l at 0 ∷ m) (drop-cons l (suc at) 0 b))
-    ∙ value_cons (get_or l at 0) (get_or l (suc at) 0 ∷ take k (drop (suc (suc at)) l))
-    ∙ ap (λ (n : ℕ). get_or l at 0 + 256 * n) (value_cons (get_or l (suc at) 0) (take k (drop (suc (suc at)) l)))
-    ∙ z
-    ∙ rw (value_two l at h, add-one at, two) refl
+byte_is : (i n : ℕ) → byte_at i n ≡ n / 256 ^ i % 256
+byte_is zero n = omega arith
+byte_is (suc i) n = refl
 
-pub value_four : (l : List ℕ) (at : ℕ) → at + 4 ≤ length l → value_of (take 4 (drop at l)) ≡ value_of (take 2 (drop at l)) + 65536 * value_of (take 2 (drop (at + 2) l))
-value_four l at h = value_more l at 2 (omega arith)
-
-pub value_eight : (l : List ℕ) (at : ℕ) → at + 8 ≤ length l → value_of (take 8 (drop at l)) ≡ value_of (take 4 (drop at l)) + 4294967296 * value_of (take 4 (drop (at + 4) l))
-value_eight l at h =
-    let e : at + 2 + 2 ≡ at + 4 = omega arith in
-    omega (
-      arith,
-      value_more l at 6 (omega arith),
-      value_more l (at + 2) 4 (omega arith),
-      ap (λ (n : ℕ). value_of (take 4 (drop n l))) e,
-      value_four l at (omega arith),
-    )
-
-pub bytes_four : (w : ℕ) → bytes_of 4 w ≡ bytes_of 2 w ++ bytes_of 2 (w / 65536)
+bytes_low : (i k n : ℕ) → bytes_low_first i k n ≡ bytes_of k (n / 256 ^ i)
 unfolding bytes_of
-bytes_four w =
-    let a : w / 256 / 256 ≡ w / 65536 = omega arith in
-    ap (λ (n : ℕ). w % 256 ∷ w / 256 % 256 ∷ n % 256 ∷ n / 256 % 256 ∷ []) a
+bytes_low i zero n = refl
+bytes_low i (suc k) n =
+    let m : 256 * 256 ^ i ≡ 256 ^ i * 256 = omega arith in
+    let e : n / 256 ^ suc i ≡ n / 256 ^ i / 256 = ap (λ (p : ℕ). n / p) (pow-succ' 256 i ∙ m) ∙ sym (div-div-eq-div-mul n (256 ^ i) 256) in
+    ap₂ (λ (b : ℕ) (bs : List ℕ). b ∷ bs) (byte_is i n) (bytes_low (suc i) k n ∙ ap (bytes_of k) e)
 
-pub bytes_eight : (w : ℕ) → bytes_of 8 w ≡ bytes_of 4 w ++ bytes_of 4 (w / 4294967296)
-unfolding bytes_of
-bytes_eight w =
-    let a : w / 256 / 256 / 256 / 256 ≡ w / 4294967296 = omega arith in
-    ap (λ (n : ℕ). w % 256 ∷ w / 256 % 256 ∷ w / 256 / 256 % 256 ∷ w / 256 / 256 / 256 % 256 ∷ n % 256 ∷ n / 256 % 256 ∷ n / 256 / 256 % 256 ∷ n / 256 / 256 / 256 % 256 ∷ []) a
+pub bytes_eight : (w : ℕ) → to_le_bytes w64 w ≡ bytes_of 8 w
+bytes_eight w = bytes_low 0 8 w ∙ ap (bytes_of 8) (omega arith)
 
 pub length_bytes : (k w : ℕ) → length (bytes_of k w) ≡ k
 unfolding bytes_of
@@ -103,15 +85,6 @@ paste_paste l at u v h =
     ∙ ap (λ (m : List ℕ). p ++ (v ++ m)) g
     ∙ append_assoc (take at l) u (v ++ drop (at + length (u ++ v)) l)
     ∙ ap (λ (m : List ℕ). take at l ++ m) (sym (append_assoc u v (drop (at + length (u ++ v)) l)))
-
-pub paste_set : (l : List ℕ) (at x : ℕ) → at < length l → set l at x ≡ pasted l at (x ∷ [])
-paste_set l at x h = set_split l at x h ∙ ap (λ (k : ℕ). take at l ++ x ∷ drop k l) (sym (add-one at))
-
-pub paste_two : (l : List ℕ) (at x y : ℕ) → at + 2 ≤ length l → set (set l at x) (at + 1) y ≡ pasted l at (x ∷ y ∷ [])
-paste_two l at x y h =
-    let a : at < length l = omega arith in
-    let n : at + 1 < length (set l at x) = omega (arith, length-set l at x) in
-    paste_set (set l at x) (at + 1) y n ∙ ap (λ (m : List ℕ). pasted m (at + 1) (y ∷ [])) (paste_set l at x a) ∙ paste_paste l at (x ∷ []) (y ∷ []) (omega arith)
 
 pub paste_none : (l : List ℕ) (at : ℕ) → l ≡ pasted l at []
 paste_none l at =
@@ -230,22 +203,15 @@ put_same b i w h g =
 
 -- ---- what the functions do
 
-pub put_two : (l : List ℕ) (at w : ℕ) → at + 2 ≤ length l → set (set l at (w % 256)) (at + 1) (w / 256 % 256) ≡ pasted l at (bytes_of 2 w)
-unfolding bytes_of
-put_two l at w h = paste_two l at (w % 256) (w / 256 % 256) h
-
-put_join : (l : List ℕ) (at k w v : ℕ) (u : List ℕ) → at + k + k ≤ length l → u ≡ bytes_of k w ++ bytes_of k v → pasted (pasted l at (bytes_of k w)) (at + k) (bytes_of k v) ≡ pasted l at u
-put_join l at k w v u h e =
-    let n = length_bytes k w in
-    let m = length_bytes k v in
-    ap (λ (i : ℕ). pasted (pasted l at (bytes_of k w)) (at + i) (bytes_of k v)) (sym n)
-    ∙ paste_paste l at (bytes_of k w) (bytes_of k v) (omega (arith, n, m)) ∙ ap (pasted l at) (sym e)
-
-pub put_four : (l : List ℕ) (at w : ℕ) → at + 4 ≤ length l → pasted (pasted l at (bytes_of 2 w)) (at + 2) (bytes_of 2 (w / 65536)) ≡ pasted l at (bytes_of 4 w)
-put_four l at w h = put_join l at 2 w (w / 65536) (bytes_of 4 w) (omega arith) (bytes_four w)
-
-pub put_eight : (l : List ℕ) (at w : ℕ) → at + 8 ≤ length l → pasted (pasted l at (bytes_of 4 w)) (at + 4) (bytes_of 4 (w / 4294967296)) ≡ pasted l at (bytes_of 8 w)
-put_eight l at w h = put_join l at 4 w (w / 4294967296) (bytes_of 8 w) (omega arith) (bytes_eight w)
+-- eight bytes written in their place
+pub put_eight : (l : List ℕ) (at w : ℕ) (bs : List ℕ) → bs ≡ bytes_of 8 w
+    → take at l ++ (bs ++ drop (at + 8 - at) (drop at l)) ≡ pasted l at (bytes_of 8 w)
+put_eight l at w bs e =
+    let n : at + 8 - at ≡ 8 = omega arith in
+    ap (λ (k : ℕ). take at l ++ (bs ++ drop k (drop at l))) n
+    ∙ ap (λ (m : List ℕ). take at l ++ (bs ++ m)) (drop-drop 8 at l)
+    ∙ ap (λ (v : List ℕ). take at l ++ (v ++ drop (at + 8) l)) e
+    ∙ ap (λ (k : ℕ). take at l ++ (bytes_of 8 w ++ drop (at + k) l)) (sym (length_bytes 8 w))
 
 pub encode_turn : (l : List ℕ) (at i : ℕ) (ws : List ℕ) → i < length ws → 8 * (at + length ws) ≤ length l
     → pasted (pasted l (8 * at) (bytes_from (take i ws))) (8 * (at + i)) (bytes_of 8 (get_or ws i 0)) ≡ pasted l (8 * at) (bytes_from (take (i + 1) ws))

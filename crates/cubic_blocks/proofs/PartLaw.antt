@@ -1,7 +1,7 @@
 -- A block of 27 places in the code's terms: the rows and legs that are left, and which entries they read.
 use mathlib.Core.Path.{◌≡◌, refl, ap}
 use mathlib.Core.List.{List}
-use Prim.Native.Nat.{ℕ, zero, suc, ◌+◌, ◌-◌, ◌<◌}
+use Prim.Native.Nat.{ℕ, suc, ◌+◌}
 use native.Mathlib.Omega.{arith}
 use lib.ListN.{get_or}
 use Rattle.trits.specs.declared.Vector.{Vector}
@@ -74,23 +74,17 @@ module _ {t : List ℕ} {k : Keys} {c p : ℕ} (f : Fits t k c p) where
 
 -- the rows of three that are left of nine places, and the legs of nine that are left of 27
 module _ (E : ℕ → Vector) (k : Keys) where
-  pub rows_more : (j c p : ℕ) (s : State) → 0 < j → rows_of E k j c p s ≡ rows_of E k (j - 1) 1 (k.p1 + c) (bump 1 (19 + c) (E (k.k1 + p)) (three_of E k.k0 c p s))
+  pub rows_more : (j i c p : ℕ) (s : State) → j ≡ suc i → rows_of E k j c p s ≡ rows_of E k i 1 (k.p1 + c) (bump 1 (19 + c) (E (k.k1 + p)) (three_of E k.k0 c p s))
   unfolding rows_of
-  rows_more zero c p s h = absurd (omega arith)
-  rows_more (suc j) c p s h =
-      let e : j ≡ suc j - 1 = omega arith in
-      ap (λ (i : ℕ). rows_of E k i 1 (k.p1 + c) (bump 1 (19 + c) (E (k.k1 + p)) (three_of E k.k0 c p s))) e
+  rows_more j i c p s e = ap (λ (m : ℕ). rows_of E k m c p s) e
 
   pub rows_none : (c p : ℕ) (s : State) → rows_of E k 0 c p s ≡ three_of E k.k0 c p s
   unfolding rows_of
   rows_none c p s = refl
 
-  pub legs_more : (j c p : ℕ) (s : State) → 0 < j → legs_of E k j c p s ≡ legs_of E k (j - 1) 2 (k.p2 + c) (bump 2 (37 + c) (E (k.k2 + p)) (nine_of E k c p s))
+  pub legs_more : (j i c p : ℕ) (s : State) → j ≡ suc i → legs_of E k j c p s ≡ legs_of E k i 2 (k.p2 + c) (bump 2 (37 + c) (E (k.k2 + p)) (nine_of E k c p s))
   unfolding legs_of
-  legs_more zero c p s h = absurd (omega arith)
-  legs_more (suc j) c p s h =
-      let e : j ≡ suc j - 1 = omega arith in
-      ap (λ (i : ℕ). legs_of E k i 2 (k.p2 + c) (bump 2 (37 + c) (E (k.k2 + p)) (nine_of E k c p s))) e
+  legs_more j i c p s e = ap (λ (m : ℕ). legs_of E k m c p s) e
 
   pub legs_none : (c p : ℕ) (s : State) → legs_of E k 0 c p s ≡ nine_of E k c p s
   unfolding legs_of

@@ -14,7 +14,7 @@ ghost use Rattle.cubic_moves.specs.Moves.{Sized};
 ghost use Rattle.cubic_blocks.specs.Parts.{whole, keys_of};
 
 use crate::parts::big;
-use blocks::Part;
+use blocks::{Part, Turned};
 use cubic_moves::head;
 use cubic_tables::{key, pair};
 use moves::points;
@@ -24,25 +24,15 @@ mod parts;
 
 pub use parts::Keys;
 
-// The parts after a block, and the slot that moved at its first place.
-#[derive(Drop)]
-pub struct Turned {
-    pub part: Part,
-    pub slot: Vector,
-}
-
 // The keys of a walk over n unknowns.
 pub fn keys(n: usize) -> Keys
     requires { (4 ≤ n) × (n ≤ 20) }
     ensures { result ≡ keys_of n }
 {
-    let k0 = key(n, 0);
-    let k1 = key(n, 1);
-    let k2 = key(n, 2);
     Keys {
-        k0,
-        k1,
-        k2,
+        k0: key(n, 0),
+        k1: key(n, 1),
+        k2: key(n, 2),
         p1: n - 1,
         p2: 2 * n - 3,
     }
@@ -54,11 +44,8 @@ pub fn all_keys(n: usize) -> [usize; 20]
     ensures { (b : ℕ) → b < n → get_or result b 0 ≡ key_of n b }
 {
     let mut r = [0usize; 20];
-    let mut b: usize = 0;
-    while b < n {
-        let k = key(n, b);
-        r[b] = k;
-        b += 1;
+    for b in 0..n {
+        r[b] = key(n, b);
     }
     r
 }
@@ -85,15 +72,25 @@ pub fn block27(
     requires found_in_bounds { (x.found + 27 ≤ length list.old) × (x.additions + 81 < 2 ^ 64) }
     ensures state { (others : List Vector) → get_or others (b - 3) none ≡ slot → whole result.part (set others (b - 3) result.slot) seconds.new list.new ≡ iterate 3 (walk_of n (triple_at table.now n)) 27 (whole x others seconds.old list.old) }
 {
-    let value = x.value;
-    let h = head(table, n, kb, b, c, rest, slot, value, x.additions, seconds);
-    let up = h.slot;
-    let next = h.value;
-    let mut y = x;
-    y.value = next;
-    y.additions = h.additions;
+    let h = head(
+        table,
+        n,
+        kb,
+        b,
+        c,
+        rest,
+        slot,
+        x.value,
+        x.additions,
+        seconds,
+    );
+    let y = Part {
+        value: h.value,
+        additions: h.additions,
+        ..x
+    };
     let p = pair(n, b, c);
     let part = big(y, table, k, b, p, seconds, list);
     points(n, list, x.place, x.found, part.found);
-    Turned { part, slot: up }
+    Turned { part, slot: h.slot }
 }

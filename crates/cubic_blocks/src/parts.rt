@@ -28,11 +28,8 @@ fn raise_slot(x: Part, b: u32, k: usize, t: Vector, seconds: &mut [u64; 420]) ->
     ensures state { (rest : List Vector) (l : List ℕ) → whole result rest seconds.new l ≡ bump b k t (whole x rest seconds.old l) }
     ensures went { Went x result 0 3 }
 {
-    let s = slot(x, b);
-    let value = x.value;
     let u = raised(k, t, x.additions, seconds);
-    let q = u.vector;
-    let m = raise(s, value, q, u.additions);
+    let m = raise(slot(x, b), x.value, u.vector, u.additions);
     after(x, b, m)
 }
 
@@ -95,19 +92,15 @@ fn nine(
     let mut y = x;
     let mut at = c;
     let mut q = p;
-    let mut left: u32 = 2;
-    loop {
+    for _j in 0..2u32 {
         y = three(y, table, k.k0, at, q, seconds, list);
-        if left == 0 {
-            return y;
-        }
         let e = k.k1 + q;
         let seat = 19 + at;
         y = raise_slot(y, 1, seat, vector(table, e), seconds);
         q = k.p1 + at;
         at = 1;
-        left -= 1;
     }
+    three(y, table, k.k0, at, q, seconds, list)
 }
 
 // 27 places below (c, d), where the first has been moved to.
@@ -128,17 +121,13 @@ pub(crate) fn big(
     let mut y = x;
     let mut at = c;
     let mut q = p;
-    let mut left: u32 = 2;
-    loop {
+    for _j in 0..2u32 {
         y = nine(y, table, k, at, q, seconds, list);
-        if left == 0 {
-            return y;
-        }
         let e = k.k2 + q;
         let seat = 37 + at;
         y = raise_slot(y, 2, seat, vector(table, e), seconds);
         q = k.p2 + at;
         at = 2;
-        left -= 1;
     }
+    nine(y, table, k, at, q, seconds, list)
 }

@@ -12,7 +12,7 @@ ghost use Rattle.cubic_tables.specs.Answers.{cubic_copy, cubic_coefficients_afte
 
 use cubic_checks::check_copy;
 use cubic_turns::{shift, turn_triples};
-use refusals::{MOST_WORDS, Verdict};
+use refusals::{MOST_WORDS, Refusal};
 use tables::count;
 
 // The coefficients of the differences `from`, into `to`.
@@ -37,14 +37,12 @@ pub fn coefficients_into(from: &[u64], to: &mut [u64], n: usize)
 }
 
 // The coefficients of a cubic table of differences: `coefficients` is written whole, or on a refusal left as it was.
-pub fn coefficients(n: u64, m: u64, table: &[u64], coefficients: &mut [u64]) -> Verdict
+pub fn coefficients(n: u64, m: u64, table: &[u64], coefficients: &mut [u64]) -> Result<(), Refusal>
     ensures answer { result ≡ cubic_copy n m table.now coefficients.old }
     ensures left { coefficients.new ≡ cubic_coefficients_after n m table.now coefficients.old }
     ensures number { code_of result ≡ code_of (cubic_copy n m table.now coefficients.old) }
 {
-    let judged = check_copy(n, m, table, coefficients.len());
-    if let Verdict::Done = judged {
-        coefficients_into(table, coefficients, n as usize);
-    }
-    judged
+    check_copy(n, m, table, coefficients.len())?;
+    coefficients_into(table, coefficients, n as usize);
+    Ok(())
 }

@@ -12,7 +12,7 @@ ghost use Rattle.cubic_tables.specs.Answers.{cubic_copy, cubic_differences_after
 
 use cubic_checks::check_copy;
 use cubic_turns::{shift, turn_triples};
-use refusals::{MOST_WORDS, Verdict};
+use refusals::{MOST_WORDS, Refusal};
 use tables::count;
 
 // The differences of the coefficients `from`, into `to`. `low` is room for the part of degree up to 2.
@@ -37,14 +37,12 @@ fn differences_into(from: &[u64], to: &mut [u64], n: usize)
 }
 
 // The table of differences of a cubic coefficient table: `table` is written whole, or on a refusal left as it was.
-pub fn differences(n: u64, m: u64, coefficients: &[u64], table: &mut [u64]) -> Verdict
+pub fn differences(n: u64, m: u64, coefficients: &[u64], table: &mut [u64]) -> Result<(), Refusal>
     ensures answer { result ≡ cubic_copy n m coefficients.now table.old }
     ensures left { table.new ≡ cubic_differences_after n m coefficients.now table.old }
     ensures number { code_of result ≡ code_of (cubic_copy n m coefficients.now table.old) }
 {
-    let verdict = check_copy(n, m, coefficients, table.len());
-    if let Verdict::Done = verdict {
-        differences_into(coefficients, table, n as usize);
-    }
-    verdict
+    check_copy(n, m, coefficients, table.len())?;
+    differences_into(coefficients, table, n as usize);
+    Ok(())
 }

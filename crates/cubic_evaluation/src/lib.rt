@@ -15,30 +15,22 @@ use cubic_checks::check;
 use cubic_planes::plane;
 use evaluation::digits;
 use gray::Point;
-use listed::{nonzero_into, turned};
+use listed::{Listed, nonzero, turned};
 use positions::power;
-use refusals::{MOST_UNKNOWNS, Refusal, Verdict};
-use tables::{Evaluated, vector};
+use refusals::{MOST_UNKNOWNS, Refusal};
+use tables::vector;
 use trits::{Vector, add};
 
 // The value at the listed unknowns of a point.
-fn value_of(
-    table: &[u64],
-    n: usize,
-    at: &[usize; 21],
-    turn: &[u64; MOST_UNKNOWNS],
-    count: usize,
-) -> Vector
-    requires { (n ≤ most_unknowns) × (count ≤ most_unknowns) × (length table.now ≡ 2 * cubic_count n) × Rising n at.now count }
-    ensures { (m : ℕ) → (x : ℕ → ℕ) → CubicTable n m table.now → Lists n x at.now turn.now count
+fn value_of(table: &[u64], n: usize, list: &Listed) -> Vector
+    requires { (n ≤ most_unknowns) × (list.now.count ≤ most_unknowns) × (length table.now ≡ 2 * cubic_count n) × Rising n list.now.at list.now.count }
+    ensures { (m : ℕ) → (x : ℕ → ℕ) → CubicTable n m table.now → Lists n x list.now.at list.now.turn list.now.count
         → Holds m (λ e. cubic_of (cubic_at n table.now e) n x) result }
 {
     let mut v = vector(table, 0);
-    let mut s: usize = 0;
-    while s < count {
-        let w = turned(plane(table, n, at, turn, s, count), turn[s]);
+    for s in 0..list.count {
+        let w = turned(plane(table, n, list, s), list.turn[s]);
         v = add(v, w);
-        s += 1;
     }
     v
 }
@@ -48,25 +40,18 @@ pub fn value_at(table: &[u64], n: usize, x: &[u64; MOST_UNKNOWNS]) -> Vector
     requires { (n ≤ most_unknowns) × (length table.now ≡ 2 * cubic_count n) }
     ensures { (m : ℕ) → CubicTable n m table.now → result ≡ of_trits m (λ e. cubic_of (cubic_at n table.now e) n (λ k. get_or x.now k 0)) }
 {
-    let mut at = [0usize; 21];
-    let mut turn = [0u64; MOST_UNKNOWNS];
-    let count = nonzero_into(n, x, &mut at, &mut turn);
-    value_of(table, n, &at, &turn, count)
+    let list = nonzero(n, x);
+    value_of(table, n, &list)
 }
 
 // The value of each equation at a point.
-pub fn evaluate(n: u64, m: u64, coefficients: &[u64], x: Point) -> Evaluated
+pub fn evaluate(n: u64, m: u64, coefficients: &[u64], x: Point) -> Result<Vector, Refusal>
     ensures { (result ≡ cubic_evaluate n m coefficients.now x.0) × CubicTells n m coefficients.now x.0 result }
 {
-    let verdict = check(n, m, coefficients);
-    match verdict {
-        Verdict::Refused(r) => Evaluated::Refused(r),
-        Verdict::Done => {
-            if x.0 >= power(n) {
-                return Evaluated::Refused(Refusal::Range);
-            }
-            let d = digits(x.0);
-            Evaluated::Value(value_at(coefficients, n as usize, &d))
-        }
+    check(n, m, coefficients)?;
+    if x.0 >= power(n) {
+        return Err(Refusal::Range);
     }
+    let d = digits(x.0);
+    Ok(value_at(coefficients, n as usize, &d))
 }

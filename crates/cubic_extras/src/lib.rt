@@ -16,7 +16,7 @@ pub fn extra_single(table: &[u64], n: usize, b: usize) -> Vector
     ensures { (m : ℕ) → (g : List ℕ) → Known n m g (cubic_count n) table.now → Holds m (λ e. extra_single (brackets_at n g e) b) result }
 {
     if b == 0 {
-        return Vector { high: 0, low: 0 };
+        return Vector::ZERO;
     }
     let s = two(table, n, b - 1, b);
     add(prior(table, n, b, b), negate(s))

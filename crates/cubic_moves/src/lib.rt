@@ -15,7 +15,7 @@ ghost use Rattle.cubic_moves.specs.Moves.{Sized, headed};
 
 use cubic_tables::{key, pair};
 use moves::{Moved, Sum, plus, raise};
-use tables::vector;
+use tables::{put_entry, vector};
 use trits::Vector;
 
 // Second slot k is brought up by t.
@@ -24,13 +24,9 @@ pub fn raised(k: usize, t: Vector, additions: u64, seconds: &mut [u64; 420]) -> 
     ensures sum { (result.vector ≡ add_of (entry seconds.old k) t) × (result.additions ≡ additions + 1) }
     ensures seconds { seconds.new ≡ put_at seconds.old k result.vector }
 {
-    let at = 2 * k;
-    let high = seconds[at];
-    let low = seconds[at + 1];
-    let u = plus(Vector { high, low }, t, additions);
-    let q = u.vector;
-    seconds[at] = q.high;
-    seconds[at + 1] = q.low;
+    let old = vector(seconds, k);
+    let u = plus(old, t, additions);
+    put_entry(seconds, k, u.vector);
     u
 }
 
@@ -53,11 +49,8 @@ fn second(
     ensures count { result.additions ≤ additions + 1 }
 {
     if rest == 0 {
-        let at = 2 * k;
-        let high = seconds[at];
-        let low = seconds[at + 1];
         return Sum {
-            vector: Vector { high, low },
+            vector: vector(seconds, k),
             additions,
         };
     }
@@ -88,8 +81,7 @@ pub fn head(
 {
     let k = pair(20, b, c);
     let u = second(table, n, kb, c, k, rest, additions, seconds);
-    let q = u.vector;
-    raise(slot, value, q, u.additions)
+    raise(slot, value, u.vector, u.additions)
 }
 
 // The move at a place, which is 3 to its first position b, times rest; nothing moves at place 0.
@@ -118,10 +110,9 @@ pub fn turn(
     }
     if rest == 1 {
         let v = plus(value, slot, additions);
-        let next = v.vector;
         return Moved {
             slot,
-            value: next,
+            value: v.vector,
             additions: v.additions,
         };
     }

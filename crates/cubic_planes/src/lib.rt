@@ -11,58 +11,41 @@ ghost use Rattle.cubic_tables.specs.Words.{CubicTable, cubic_at};
 ghost use Rattle.cubic_planes.specs.Parts.{cell_sum, plane_sum};
 
 use cubic_tables::key;
-use listed::{row, turned};
+use listed::{Listed, row, turned};
 use refusals::MOST_UNKNOWNS;
 use tables::{index, vector};
 use trits::{Vector, add};
 
 // What the product of the listed unknowns i and j, number s and t of the list, is multiplied by: its own coefficient, and those of its products with
 // the listed unknowns from j on. There is none of i, i and i.
-fn cell(
-    table: &[u64],
-    n: usize,
-    at: &[usize; 21],
-    turn: &[u64; MOST_UNKNOWNS],
-    s: usize,
-    t: usize,
-    count: usize,
-) -> Vector
-    requires { (n ≤ most_unknowns) × (s ≤ t) × (t < count) × (count ≤ most_unknowns) × (length table.now ≡ 2 * cubic_count n) × Rising n at.now count }
-    ensures { (m : ℕ) → (x : ℕ → ℕ) → CubicTable n m table.now → Lists n x at.now turn.now count
-        → Holds m (λ e. cell_sum (cubic_at n table.now e) n (get_or at.now s 0) (get_or at.now t 0) x) result }
+fn cell(table: &[u64], n: usize, list: &Listed, s: usize, t: usize) -> Vector
+    requires { (n ≤ most_unknowns) × (s ≤ t) × (t < list.now.count) × (list.now.count ≤ most_unknowns) × (length table.now ≡ 2 * cubic_count n) × Rising n list.now.at list.now.count }
+    ensures { (m : ℕ) → (x : ℕ → ℕ) → CubicTable n m table.now → Lists n x list.now.at list.now.turn list.now.count
+        → Holds m (λ e. cell_sum (cubic_at n table.now e) n (get_or list.now.at s 0) (get_or list.now.at t 0) x) result }
 {
-    let i = at[s];
-    let j = at[t];
+    let i = list.at[s];
+    let j = list.at[t];
     let pair = index(n, j, j) - n - 1;
     let base = key(n, i) + (pair - j);
     let k = index(n, i, j);
     let seed = vector(table, k);
     if s == t {
-        return row(table, base, seed, at, turn, t + 1, count);
+        return row(table, base, seed, &list.at, &list.turn, t + 1, list.count);
     }
-    row(table, base, seed, at, turn, t, count)
+    row(table, base, seed, &list.at, &list.turn, t, list.count)
 }
 
 // What the listed unknown i, number s of the list, is multiplied by: its own coefficient, and what its products with the listed unknowns from i on are.
-pub fn plane(
-    table: &[u64],
-    n: usize,
-    at: &[usize; 21],
-    turn: &[u64; MOST_UNKNOWNS],
-    s: usize,
-    count: usize,
-) -> Vector
-    requires { (n ≤ most_unknowns) × (s < count) × (count ≤ most_unknowns) × (length table.now ≡ 2 * cubic_count n) × Rising n at.now count }
-    ensures { (m : ℕ) → (x : ℕ → ℕ) → CubicTable n m table.now → Lists n x at.now turn.now count
-        → Holds m (λ e. plane_sum (cubic_at n table.now e) n (get_or at.now s 0) x) result }
+pub fn plane(table: &[u64], n: usize, list: &Listed, s: usize) -> Vector
+    requires { (n ≤ most_unknowns) × (s < list.now.count) × (list.now.count ≤ most_unknowns) × (length table.now ≡ 2 * cubic_count n) × Rising n list.now.at list.now.count }
+    ensures { (m : ℕ) → (x : ℕ → ℕ) → CubicTable n m table.now → Lists n x list.now.at list.now.turn list.now.count
+        → Holds m (λ e. plane_sum (cubic_at n table.now e) n (get_or list.now.at s 0) x) result }
 {
-    let i = at[s];
+    let i = list.at[s];
     let mut v = vector(table, 1 + i);
-    let mut t = s;
-    while t < count {
-        let w = turned(cell(table, n, at, turn, s, t, count), turn[t]);
+    for t in s..list.count {
+        let w = turned(cell(table, n, list, s, t), list.turn[t]);
         v = add(v, w);
-        t += 1;
     }
     v
 }

@@ -1,22 +1,19 @@
-// Signed rows of cubics into words. Contracts cite cubic_tables/specs/Answers.
-#![tactic(auto)]
+// Signed rows of cubics into words: degree three of the crate rows. Contracts cite cubic_tables/specs/Answers.
+#![tactic(auto, unfolding(cubic_tables::specs::Words::cubic_packed))]
 
 ghost use Rattle.std.specs.Prelude.{◌≡◌};
 ghost use Rattle.refusals.specs.Refusal.{code_of};
 ghost use Rattle.cubic_tables.specs.Answers.{cubic_pack_verdict, cubic_pack_after};
 
-use cubic_tables::count;
-use refusals::{Refusal, Verdict, sizes_fit};
-use rows::pack_entries;
+use cubic_checks::Cubic;
+use refusals::Refusal;
 
+// The instance of degree three: wrong ones are tried here (must-fail).
 // Signed rows, m times N numbers, into a table of words: `table` is written whole, or on a refusal left as it was.
-pub fn pack(n: u64, m: u64, rows: &[i8], table: &mut [u64]) -> Verdict
+pub fn pack(n: u64, m: u64, rows: &[i8], table: &mut [u64]) -> Result<(), Refusal>
     ensures answer { result ≡ cubic_pack_verdict n m rows.now table.old }
     ensures left { table.new ≡ cubic_pack_after n m rows.now table.old }
     ensures number { code_of result ≡ code_of (cubic_pack_verdict n m rows.now table.old) }
 {
-    if !sizes_fit(n, m) {
-        return Verdict::Refused(Refusal::Size);
-    }
-    pack_entries(m, count(n as usize), rows, table)
+    rows::pack::<Cubic>(n, m, rows, table)
 }

@@ -18,7 +18,6 @@ use cubic_tables::{key, pair};
 use gray::{Place, digits_at};
 use listed::nonzero;
 use refusals::MOST_UNKNOWNS;
-use seconds::less;
 use tables::vector;
 use trits::{Vector, add};
 use weights::{Weights, low_sum, skip, weigh, weighed};
@@ -29,17 +28,15 @@ fn twice(table: &[u64], n: usize, b: usize, k: u64, up: u64) -> Vector
     ensures { (m q : ℕ) → CubicTable n m table.now → k ≡ ((q - 3 ^ b) / 3 ^ b + 2) / 3 → Holds m (λ e. slot_to (cubic_at n table.now e) n b q (b + 1)) result }
 {
     let x = digits_at(n, b + 1, up, Place(up * k));
-    let l = nonzero(n, &x);
-    let at = l.at;
-    let turn = l.turn;
-    let from = skip(&at, 0, l.count, b + 1);
+    let list = nonzero(n, &x);
+    let from = skip(&list, 0, b + 1);
     let w = Weights {
         whole: k,
         same: 0,
         next: low_sum(k),
     };
     let base = key(n, b) + (pair(n, b, b) - b);
-    let v = weighed(table, n, b, b, base, w, &at, &turn, from, l.count);
+    let v = weighed(table, n, b, b, base, w, &list, from);
     add(vector(table, 1 + b), v)
 }
 
@@ -50,23 +47,18 @@ fn rows(table: &[u64], n: usize, b: usize, rest: u64, up: u64, first: Vector) ->
         → Holds m (λ e. slot_to (cubic_at n table.now e) n b q n) result }
 {
     let x = digits_at(n, b + 1, up, Place(rest));
-    let l = nonzero(n, &x);
-    let at = l.at;
-    let turn = l.turn;
-    let count = l.count;
-    let mut from = skip(&at, 0, count, b + 1);
+    let list = nonzero(n, &x);
+    let mut from = skip(&list, 0, b + 1);
     let kb = key(n, b);
     let mut y = rest / up;
     let mut v = first;
-    let mut c = b + 1;
-    while c < n {
-        from = skip(&at, from, count, c + 1);
+    for c in b + 1..n {
+        from = skip(&list, from, c + 1);
         let base = kb + (pair(n, c, c) - c);
         let w = weigh(y);
-        let r = weighed(table, n, b, c, base, w, &at, &turn, from, count);
+        let r = weighed(table, n, b, c, base, w, &list, from);
         v = add(v, r);
-        y = y / 3;
-        c += 1;
+        y /= 3;
     }
     v
 }
@@ -76,7 +68,7 @@ fn slot(table: &[u64], n: usize, b: usize, q: u64, power: u64) -> Vector
     requires { (n ≤ most_unknowns) × (b < n) × (q < 3 ^ n) × (length table.now ≡ 2 * cubic_count n) × (power ≡ 3 ^ b) }
     ensures { (m : ℕ) → CubicTable n m table.now → Holds m (λ e. held 3 (along 3 (cubic_of (back_cubic n (cubic_at n table.now e)) n)) (b ∷ []) q) result }
 {
-    let rest = less(q, power);
+    let rest = q.saturating_sub(power);
     let k = (rest / power + 2) / 3;
     let up = power * 3;
     let first = twice(table, n, b, k, up);
@@ -88,14 +80,11 @@ pub fn slots_at(table: &[u64], n: usize, q: u64) -> [Vector; MOST_UNKNOWNS]
     requires { (n ≤ most_unknowns) × (q < 3 ^ n) × (length table.now ≡ 2 * cubic_count n) }
     ensures { CubicSlots n table.now q result }
 {
-    let mut s = [Vector { high: 0, low: 0 }; MOST_UNKNOWNS];
+    let mut s = [Vector::ZERO; MOST_UNKNOWNS];
     let mut power: u64 = 1;
-    let mut b: usize = 0;
-    while b < n {
-        let v = slot(table, n, b, q, power);
-        s[b] = v;
-        power = power * 3;
-        b += 1;
+    for b in 0..n {
+        s[b] = slot(table, n, b, q, power);
+        power *= 3;
     }
     s
 }

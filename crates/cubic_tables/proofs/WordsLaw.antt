@@ -4,7 +4,6 @@ use mathlib.Core.List.{List}
 use Prim.Native.Nat.{ℕ, ◌+◌, ◌%◌, ◌≤◌, ◌<◌}
 use native.Mathlib.Nat.{mod-eq_of_lt}
 use native.Mathlib.Omega.{arith}
-use Rattle.residues.specs.Sums.{same}
 use Rattle.residues.proofs.SumLaw.{same_self, same_other}
 use Rattle.residues.proofs.ModLaw.{Cong, cof, ◌⨾◌, cdrop}
 use Rattle.trits.specs.declared.Vector.{Vector}

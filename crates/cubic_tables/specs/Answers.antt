@@ -1,16 +1,14 @@
 -- What the operations on cubic tables answer, and what they leave in the table that they were lent: as in degree 2, with the new lengths.
 use Rattle.std.specs.Prelude.{List, ℕ, ℤ}
-use Rattle.refusals.specs.declared.Verdict.{Verdict}
-use Rattle.refusals.specs.declared.Verdict.TheVariants.{Done}
-use Rattle.refusals.specs.Refusal.{sized, after}
-use Rattle.tables.specs.declared.Evaluated.{Evaluated}
+use Rattle.refusals.specs.Refusal.{Verdict, sized, after, done}
+use Rattle.tables.specs.Answers.{Evaluated}
 use Rattle.tables.specs.Answers.{checked_then, rows_verdict, entries_verdict, point_verdict, valued, TellsOf}
 use Rattle.cubic_tables.specs.Order.{cubic_count}
 use Rattle.cubic_tables.specs.Words.{cubic_packed, cubic_differences, cubic_coefficients, cubic_values}
 
 -- a cubic word table by itself
 abbrev pub cubic_checked : ℕ → ℕ → List ℕ → Verdict
-cubic_checked n m t = checked_then (cubic_count n) n m t Done
+cubic_checked n m t = checked_then (cubic_count n) n m t done
 
 -- signed rows into a table
 abbrev pub cubic_pack_verdict : ℕ → ℕ → List ℤ → List ℕ → Verdict

@@ -18,6 +18,7 @@ use cubic_tables::triple;
 use tables::{index, put_entry, vector};
 use trits::{Vector, add, negate};
 
+// One flag for both ways: a closure would have to say what it gives over each state of the table that is being written.
 // The entry of b, c, d: of the differences of the coefficients `from`, or on the way back of the coefficients, of which those before it stand in `to`.
 fn value(from: &[u64], to: &[u64], n: usize, back: bool, b: usize, c: usize, d: usize) -> Vector
     requires { (n ≤ most_unknowns) × (b ≤ c) × (c ≤ d) × (b < d) × (d < n) × (length from.now ≡ 2 * cubic_count n) × (length to.now ≡ 2 * cubic_count n) }
@@ -50,10 +51,8 @@ fn cells(from: &[u64], to: &mut [u64], n: usize, back: bool, b: usize, c: usize)
     ensures { (m : ℕ) → (g old : List ℕ) → CubicTable n m from.now → CubicTable n m g → Made n m back from.now g
         → Written g (count_of n) (triple_index n b c c) old to.old → Written g (count_of n) (triple_index n b c n) old to.new }
 {
-    let mut d = c;
-    while d < n {
+    for d in c..n {
         cell(from, to, n, back, b, c, d);
-        d += 1;
     }
 }
 
@@ -63,10 +62,8 @@ fn planes(from: &[u64], to: &mut [u64], n: usize, back: bool, b: usize)
     ensures { (m : ℕ) → (g old : List ℕ) → CubicTable n m from.now → CubicTable n m g → Made n m back from.now g
         → Written g (count_of n) (triple_index n b b b) old to.old → Written g (count_of n) (triple_index n b n n) old to.new }
 {
-    let mut c = b;
-    while c < n {
+    for c in b..n {
         cells(from, to, n, back, b, c);
-        c += 1;
     }
 }
 
@@ -76,10 +73,8 @@ pub fn turn_triples(from: &[u64], to: &mut [u64], n: usize, back: bool)
     ensures { (m : ℕ) → (g : List ℕ) → CubicTable n m from.now → CubicTable n m g → Made n m back from.now g
         → Written g (count_of n) (cubic_count n) to.old to.new }
 {
-    let mut b: usize = 0;
-    while b < n {
+    for b in 0..n {
         planes(from, to, n, back, b);
-        b += 1;
     }
 }
 
@@ -99,12 +94,10 @@ fn shift_singles(cubes: &[u64], from: &[u64], to: &mut [u64], n: usize, back: bo
     ensures { (m : ℕ) → (h g old : List ℕ) → Known n m h (cubic_count n) cubes.now → ((k : ℕ) → k < count_of n → Legal m (entry from.now k))
         → Shifted n m back h from.now g → Written g 0 1 old to.old → Written g 0 (1 + n) old to.new }
 {
-    let mut b: usize = 0;
-    while b < n {
+    for b in 0..n {
         let x = signed(extra_single(cubes, n, b), back);
         let v = add(vector(from, 1 + b), x);
         put_entry(to, 1 + b, v);
-        b += 1;
     }
 }
 
@@ -114,13 +107,11 @@ fn shift_pairs(cubes: &[u64], from: &[u64], to: &mut [u64], n: usize, back: bool
     ensures { (m : ℕ) → (h g old : List ℕ) → Known n m h (cubic_count n) cubes.now → ((k : ℕ) → k < count_of n → Legal m (entry from.now k))
         → Shifted n m back h from.now g → Written g 0 (index_of n b b) old to.old → Written g 0 (index_of n b n) old to.new }
 {
-    let mut c = b;
-    while c < n {
+    for c in b..n {
         let x = signed(extra_pair(cubes, n, b, c), back);
         let k = index(n, b, c);
         let v = add(vector(from, k), x);
         put_entry(to, k, v);
-        c += 1;
     }
 }
 
@@ -132,9 +123,7 @@ pub fn shift(cubes: &[u64], from: &[u64], to: &mut [u64], n: usize, back: bool)
 {
     put_entry(to, 0, vector(from, 0));
     shift_singles(cubes, from, to, n, back);
-    let mut b: usize = 0;
-    while b < n {
+    for b in 0..n {
         shift_pairs(cubes, from, to, n, back, b);
-        b += 1;
     }
 }

@@ -17,7 +17,7 @@ ghost use Rattle.cubic_value.specs.Parts.{pair_to, later_to, part_to};
 
 use cubic_tables::{key, pair};
 use gray::{Place, digits_at};
-use listed::nonzero;
+use listed::{Listed, nonzero};
 use refusals::MOST_UNKNOWNS;
 use shares::{beside, own};
 use tables::vector;
@@ -25,55 +25,33 @@ use trits::{Vector, add, times};
 use weights::{skip, weigh, weighed};
 
 // The entry of b, and the rows of b and each unknown from b + 2 on, as often as those of that unknown come; y is the place over 3 to the b + 2.
-fn later(
-    table: &[u64],
-    n: usize,
-    b: usize,
-    q: u64,
-    y: u64,
-    at: &[usize; 21],
-    turn: &[u64; MOST_UNKNOWNS],
-    from: usize,
-    count: usize,
-) -> Vector
-    requires { (n ≤ most_unknowns) × (b + 1 < n) × (length table.now ≡ 2 * cubic_count n) × (y ≡ q / 3 ^ (b + 2)) × (count ≤ most_unknowns) × Ready n 0 q at.now turn.now count (b + 3) from }
+fn later(table: &[u64], n: usize, b: usize, q: u64, y: u64, list: &Listed, from: usize) -> Vector
+    requires { (n ≤ most_unknowns) × (b + 1 < n) × (length table.now ≡ 2 * cubic_count n) × (y ≡ q / 3 ^ (b + 2)) × (list.now.count ≤ most_unknowns) × Ready n 0 q list.now.at list.now.turn list.now.count (b + 3) from }
     ensures { (m : ℕ) → CubicTable n m table.now → Holds m (λ e. (cubic_at n table.now e).lin b + sum (n - (b + 2)) (λ k. later_to (cubic_at n table.now e) n b (b + 2 + k) q)) result }
 {
     let kb = key(n, b);
     let mut v = vector(table, 1 + b);
     let mut z = y;
     let mut f = from;
-    let mut c = b + 2;
-    while c < n {
-        f = skip(at, f, count, c + 1);
+    for c in b + 2..n {
+        f = skip(list, f, c + 1);
         let base = kb + (pair(n, c, c) - c);
         let w = weigh(z);
-        let r = weighed(table, n, b, c, base, w, at, turn, f, count);
+        let r = weighed(table, n, b, c, base, w, list, f);
         v = add(v, r);
-        z = z / 3;
-        c += 1;
+        z /= 3;
     }
     v
 }
 
 // The row of b, b.
-fn own_row(
-    table: &[u64],
-    n: usize,
-    b: usize,
-    q: u64,
-    y: u64,
-    at: &[usize; 21],
-    turn: &[u64; MOST_UNKNOWNS],
-    from: usize,
-    count: usize,
-) -> Vector
-    requires { (n ≤ most_unknowns) × (b < n) × (length table.now ≡ 2 * cubic_count n) × (y ≡ q / 3 ^ b) × (count ≤ most_unknowns) × Ready n 0 q at.now turn.now count (b + 2) from }
+fn own_row(table: &[u64], n: usize, b: usize, q: u64, y: u64, list: &Listed, from: usize) -> Vector
+    requires { (n ≤ most_unknowns) × (b < n) × (length table.now ≡ 2 * cubic_count n) × (y ≡ q / 3 ^ b) × (list.now.count ≤ most_unknowns) × Ready n 0 q list.now.at list.now.turn list.now.count (b + 2) from }
     ensures { (m : ℕ) → CubicTable n m table.now → Holds m (λ e. pair_to (cubic_at n table.now e) n b b q) result }
 {
     let base = key(n, b) + (pair(n, b, b) - b);
     let w = own(y);
-    weighed(table, n, b, b, base, w, at, turn, from, count)
+    weighed(table, n, b, b, base, w, list, from)
 }
 
 // The entry of b, and the rows of b and each later unknown.
@@ -83,46 +61,34 @@ fn other_rows(
     b: usize,
     q: u64,
     y: u64,
-    at: &[usize; 21],
-    turn: &[u64; MOST_UNKNOWNS],
+    list: &Listed,
     from: usize,
-    count: usize,
 ) -> Vector
-    requires { (n ≤ most_unknowns) × (b + 1 < n) × (length table.now ≡ 2 * cubic_count n) × (y ≡ q / 3 ^ b) × (count ≤ most_unknowns) × Ready n 0 q at.now turn.now count (b + 2) from }
+    requires { (n ≤ most_unknowns) × (b + 1 < n) × (length table.now ≡ 2 * cubic_count n) × (y ≡ q / 3 ^ b) × (list.now.count ≤ most_unknowns) × Ready n 0 q list.now.at list.now.turn list.now.count (b + 2) from }
     ensures { (m : ℕ) → CubicTable n m table.now
         → Holds m (λ e. visits 3 (b ∷ []) q * (cubic_at n table.now e).lin b + sum (n - (b + 1)) (λ k. pair_to (cubic_at n table.now e) n b (b + 1 + k) q)) result }
 {
-    let f = skip(at, from, count, b + 2);
+    let f = skip(list, from, b + 2);
     let c = b + 1;
     let base = key(n, b) + (pair(n, c, c) - c);
     let w = beside(y);
-    let side = weighed(table, n, b, c, base, w, at, turn, f, count);
-    let far = later(table, n, b, q, y / 3 / 3, at, turn, f, count);
+    let side = weighed(table, n, b, c, base, w, list, f);
+    let far = later(table, n, b, q, y / 3 / 3, list, f);
     let u = weigh(y);
     add(times(far, u.whole), side)
 }
 
 // All entries that begin with b.
-fn part(
-    table: &[u64],
-    n: usize,
-    b: usize,
-    q: u64,
-    y: u64,
-    at: &[usize; 21],
-    turn: &[u64; MOST_UNKNOWNS],
-    from: usize,
-    count: usize,
-) -> Vector
-    requires { (n ≤ most_unknowns) × (b < n) × (length table.now ≡ 2 * cubic_count n) × (y ≡ q / 3 ^ b) × (count ≤ most_unknowns) × Ready n 0 q at.now turn.now count (b + 2) from }
+fn part(table: &[u64], n: usize, b: usize, q: u64, y: u64, list: &Listed, from: usize) -> Vector
+    requires { (n ≤ most_unknowns) × (b < n) × (length table.now ≡ 2 * cubic_count n) × (y ≡ q / 3 ^ b) × (list.now.count ≤ most_unknowns) × Ready n 0 q list.now.at list.now.turn list.now.count (b + 2) from }
     ensures { (m : ℕ) → CubicTable n m table.now → Holds m (λ e. part_to (cubic_at n table.now e) n b q) result }
 {
-    let first = own_row(table, n, b, q, y, at, turn, from, count);
+    let first = own_row(table, n, b, q, y, list, from);
     if b + 1 == n {
         let u = weigh(y);
         return add(times(vector(table, 1 + b), u.whole), first);
     }
-    let rest = other_rows(table, n, b, q, y, at, turn, from, count);
+    let rest = other_rows(table, n, b, q, y, list, from);
     add(rest, first)
 }
 
@@ -132,20 +98,15 @@ pub fn value_after(table: &[u64], n: usize, q: u64) -> Vector
     ensures { (m : ℕ) → CubicTable n m table.now → result ≡ of_trits m (λ e. cubic_of (back_cubic n (cubic_at n table.now e)) n (point_digit 3 q)) }
 {
     let x = digits_at(n, 1, 3, Place(q));
-    let l = nonzero(n, &x);
-    let at = l.at;
-    let turn = l.turn;
-    let count = l.count;
+    let list = nonzero(n, &x);
     let mut v = vector(table, 0);
     let mut y = q;
     let mut from: usize = 0;
-    let mut b: usize = 0;
-    while b < n {
-        from = skip(&at, from, count, b + 1);
-        let p = part(table, n, b, q, y, &at, &turn, from, count);
+    for b in 0..n {
+        from = skip(&list, from, b + 1);
+        let p = part(table, n, b, q, y, &list, from);
         v = add(v, p);
-        y = y / 3;
-        b += 1;
+        y /= 3;
     }
     v
 }

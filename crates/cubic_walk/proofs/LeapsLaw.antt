@@ -19,14 +19,15 @@ use Rattle.cubic_blocks.specs.Parts.{whole}
 use Rattle.cubic_walk.specs.Run.{part_of}
 use Rattle.cubic_moves.specs.Moves.{Sized}
 use Rattle.cubic_walk.specs.Run.{state_of, search_of, Sane}
-use Rattle.cubic_walk.specs.declared.Ran.{Ran}
+use Rattle.walk.specs.declared.Ran.{Ran}
+use Rattle.cubic_walk.specs.declared.Walker.{Walker}
 use Rattle.blocks.specs.declared.parts.Part.{Part}
 use Rattle.cubic_moves.proofs.MoveLaw.{Heads, heads}
 use Rattle.cubic_moves.proofs.NearLaw.{counts, step_near}
 use Rattle.walks.proofs.WalkedLaw.{Walked, walked_none, walked_more}
 
 -- a walker taken apart, and put together again
-pub apart : (r : Ran) (l : List ℕ) → 3 ≤ length r.walker.slots → state_of r l ≡ whole (part_of r) (drop 3 r.walker.slots) r.walker.seconds l
+pub apart : (r : Ran Walker) (l : List ℕ) → 3 ≤ length r.walker.slots → state_of r l ≡ whole (part_of r) (drop 3 r.walker.slots) r.walker.seconds l
 apart r l h =
     ap (λ (v : List Vector). record { place = r.walker.place; value = r.walker.value; slots = v; seconds = r.walker.seconds; additions = r.additions; found = r.found; list = l })
     (split3 r.walker.slots h)
@@ -64,7 +65,7 @@ seconds n x b r g y f h e w a =
 
 module _ (t : List ℕ) (n e : ℕ) (z : Sized t n e) where
   -- the loop begins
-  pub kept_none : (budget : ℕ) (r : Ran) (l : List ℕ) → length r.walker.slots ≡ 20 → Sane e r l → 0 < r.walker.place → r.walker.place % 27 ≡ 0
+  pub kept_none : (budget : ℕ) (r : Ran Walker) (l : List ℕ) → length r.walker.slots ≡ 20 → Sane e r l → 0 < r.walker.place → r.walker.place % 27 ≡ 0
       → Kept t n e budget budget l l r.walker.slots r.walker.slots r.walker.seconds r.walker.seconds (part_of r) (part_of r)
   kept_none budget r l k s a m =
       record {
@@ -108,13 +109,13 @@ module _ (t : List ℕ) (n e : ℕ) (z : Sized t n e) where
         record { size = length-set v b u ∙ k.size; above = omega arith; aligned = omega (arith, k.aligned); walked = m }
 
   -- the loop ends: the walker q is put together again
-  pub record Done (budget : ℕ) (r q : Ran) (l₀ l : List ℕ) : Type 0 where
+  pub record Done (budget : ℕ) (r q : Ran Walker) (l₀ l : List ℕ) : Type 0 where
     pub state : search_of t n e (budget - (q.walker.place - r.walker.place)) (state_of q l) ≡ search_of t n e budget (state_of r l₀)
     pub sane : Sane e q l
     pub from : r.walker.place ≤ q.walker.place
     pub most : q.walker.place ≤ r.walker.place + budget
 
-  pub kept_done : {budget left : ℕ} {l₀ l : List ℕ} {v : List Vector} {w : List ℕ} {x₀ x : Part} (r q : Ran) → length r.walker.slots ≡ 20 → x₀ ≡ part_of r
+  pub kept_done : {budget left : ℕ} {l₀ l : List ℕ} {v : List Vector} {w : List ℕ} {x₀ x : Part} (r q : Ran Walker) → length r.walker.slots ≡ 20 → x₀ ≡ part_of r
       → Kept t n e budget left l₀ l r.walker.slots v r.walker.seconds w x₀ x → state_of q l ≡ whole x (drop 3 v) w l → Done budget r q l₀ l
   kept_done {budget} {left} {l₀} {l} {v} {w} {x₀} {x} r q h o k c =
       let m = k.walked in

@@ -4,27 +4,22 @@ ghost use Rattle.cubic_moves.specs.Moves.{Sized};
 ghost use Rattle.cubic_blocks.specs.Parts.{whole};
 ghost use Rattle.cubic_walk.specs.Run.{state_of, part_of, search_of, Sane};
 
-use crate::{Ran, Walker};
+use crate::Walker;
 use blocks::Part;
 use cubic_blocks::{all_keys, block27, keys};
 use trits::Vector;
-use walk::{ready, room};
+use walk::{Ran, ready, room};
 
 // The parts that move inside blocks.
-fn opened(r: Ran) -> Part
+fn opened(r: Ran<Walker>) -> Part
     ensures { result ≡ part_of r }
 {
     let w = r.walker;
-    let slots = w.slots;
-    let value = w.value;
-    let s0 = slots[0];
-    let s1 = slots[1];
-    let s2 = slots[2];
     Part {
-        value,
-        s0,
-        s1,
-        s2,
+        value: w.value,
+        s0: w.slots[0],
+        s1: w.slots[1],
+        s2: w.slots[2],
         additions: r.additions,
         found: r.found,
         place: w.place,
@@ -32,25 +27,19 @@ fn opened(r: Ran) -> Part
 }
 
 // The walker again, from the parts, the slots from 3 on and the second slots.
-fn closed(x: Part, rest: [Vector; 20], seconds: [u64; 420]) -> Ran
+fn closed(x: Part, mut rest: [Vector; 20], seconds: [u64; 420]) -> Ran<Walker>
     ensures { (l : List ℕ) → state_of result l ≡ whole x (drop 3 rest) seconds l }
 {
-    let s0 = x.s0;
-    let s1 = x.s1;
-    let s2 = x.s2;
-    let value = x.value;
-    let mut slots = rest;
-    slots[0] = s0;
-    slots[1] = s1;
-    slots[2] = s2;
-    let walker = Walker {
-        place: x.place,
-        value,
-        slots,
-        seconds,
-    };
+    rest[0] = x.s0;
+    rest[1] = x.s1;
+    rest[2] = x.s2;
     Ran {
-        walker,
+        walker: Walker {
+            place: x.place,
+            value: x.value,
+            slots: rest,
+            seconds,
+        },
         additions: x.additions,
         found: x.found,
     }
@@ -58,7 +47,14 @@ fn closed(x: Part, rest: [Vector; 20], seconds: [u64; 420]) -> Ran
 
 // As many blocks of 27 as there is room for, up to a place with one position; none where the place is not above 0 or 27 does not
 // divide it.
-pub(crate) fn leaps(table: &[u64], n: usize, end: u64, r: Ran, budget: u64, list: &mut [u64]) -> Ran
+pub(crate) fn leaps(
+    table: &[u64],
+    n: usize,
+    end: u64,
+    r: Ran<Walker>,
+    budget: u64,
+    list: &mut [u64],
+) -> Ran<Walker>
     requires sized { Sized table.now n end }
     requires sane_2 { Sane end r list.old }
     ensures state { search_of table.now n end (budget - (result.walker.place - r.walker.place)) (state_of result list.new) ≡ search_of table.now n end budget (state_of r list.old) }
@@ -84,14 +80,11 @@ pub(crate) fn leaps(table: &[u64], n: usize, end: u64, r: Ran, budget: u64, list
         let b = f.position + 3;
         let g = positions::split(f.rest - 1);
         let c = b + g.position;
-        let slot = slots[b];
         let kb = all[b];
         let rest = g.rest - 1;
-        let t = block27(table, n, x, k, kb, b, c, rest, slot, &mut seconds, list);
-        let up = t.slot;
-        let y = t.part;
-        slots[b] = up;
-        x = y;
+        let t = block27(table, n, x, k, kb, b, c, rest, slots[b], &mut seconds, list);
+        slots[b] = t.slot;
+        x = t.part;
         left -= 27;
     }
     closed(x, slots, seconds)

@@ -7,7 +7,7 @@ ghost use Rattle.cubic_moves.specs.Moves.{Sized};
 ghost use Rattle.cubic_walk.specs.Run.{fresh, state_of, search_of};
 
 use trits::Vector;
-use walk::going;
+use walk::{Ran, going};
 
 mod leaps;
 mod steps;
@@ -20,14 +20,6 @@ pub struct Walker {
     pub value: Vector,
     pub slots: [Vector; 20],
     pub seconds: [u64; 420],
-}
-
-// A walker after some places, the additions they took and the zeros found there.
-#[derive(Drop)]
-pub struct Ran {
-    pub walker: Walker,
-    pub additions: u64,
-    pub found: usize,
 }
 
 // How many places, at most budget, to walk before blocks may begin: up to the next multiple of 27, or all where the list has no room
@@ -44,7 +36,14 @@ fn lead(place: u64, budget: u64, room: usize) -> u64
 
 // At most budget places, up to end or a full list. Every zero's point is listed, from the front of list; the rest of list stays.
 // Single places lead to a multiple of 27 and over the 27 places of a block whose first place is a power of three.
-pub fn run(table: &[u64], n: usize, end: u64, w: Walker, budget: u64, list: &mut [u64]) -> Ran
+pub fn run(
+    table: &[u64],
+    n: usize,
+    end: u64,
+    w: Walker,
+    budget: u64,
+    list: &mut [u64],
+) -> Ran<Walker>
     requires sized { Sized table.now n end }
     requires place_le_end { w.place ≤ end }
     ensures state { state_of result list.new ≡ search_of table.now n end budget (fresh w list.old) }

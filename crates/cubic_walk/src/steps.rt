@@ -3,13 +3,20 @@ ghost use Rattle.std.specs.Prelude.{◌≡◌, ◌≤◌, ◌+◌};
 ghost use Rattle.cubic_moves.specs.Moves.{Sized};
 ghost use Rattle.cubic_walk.specs.Run.{state_of, search_of, Sane};
 
-use crate::{Ran, Walker};
+use crate::Walker;
 use cubic_moves::turn;
 use moves::mark;
-use walk::going;
+use walk::{Ran, going};
 
 // At most budget places, one by one, up to end or a full list. Nothing is copied from place to place.
-pub(crate) fn steps(table: &[u64], n: usize, end: u64, r: Ran, budget: u64, list: &mut [u64]) -> Ran
+pub(crate) fn steps(
+    table: &[u64],
+    n: usize,
+    end: u64,
+    r: Ran<Walker>,
+    budget: u64,
+    list: &mut [u64],
+) -> Ran<Walker>
     requires sized { Sized table.now n end }
     requires sane_2 { Sane end r list.old }
     ensures state { state_of result list.new ≡ search_of table.now n end budget (state_of r list.old) }
@@ -28,25 +35,31 @@ pub(crate) fn steps(table: &[u64], n: usize, end: u64, r: Ran, budget: u64, list
     while going(left, end, place, len, found) {
         let f = positions::split(place);
         let b = f.position;
-        let slot = slots[b];
-        let h = turn(table, n, place, b, f.rest, slot, value, cost, &mut seconds);
-        let up = h.slot;
-        let next = h.value;
-        slots[b] = up;
-        found = mark(n, next, place, found, list);
-        value = next;
+        let h = turn(
+            table,
+            n,
+            place,
+            b,
+            f.rest,
+            slots[b],
+            value,
+            cost,
+            &mut seconds,
+        );
+        slots[b] = h.slot;
+        found = mark(n, h.value, place, found, list);
+        value = h.value;
         cost = h.additions;
         place += 1;
         left -= 1;
     }
-    let walker = Walker {
-        place,
-        value,
-        slots,
-        seconds,
-    };
     Ran {
-        walker,
+        walker: Walker {
+            place,
+            value,
+            slots,
+            seconds,
+        },
         additions: cost,
         found,
     }

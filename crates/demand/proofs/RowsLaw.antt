@@ -8,9 +8,7 @@ use native.Mathlib.Nat.{zero-add, add-zero, mod-eq_of_lt}
 use native.Mathlib.Omega.{arith}
 use lib.IntN.{ℤ, pos, ◌*ℤ◌}
 use lib.ListN.{length, get_or}
-use Rattle.refusals.specs.declared.Verdict.{Verdict}
-use Rattle.refusals.specs.declared.Verdict.TheVariants as verdict
-use Rattle.refusals.specs.Refusal.{sized, after}
+use Rattle.refusals.specs.Refusal.{Verdict, sized, after, done}
 use Rattle.refusals.proofs.RefusalLaw.{sized_within, sized_next}
 use Rattle.refusals.specs.Limits.{Within}
 use Rattle.residues.specs.Residue.{floor_mod}
@@ -52,9 +50,9 @@ use Rattle.given.proofs.TableLaw.{checked_if}
 use Rattle.given.proofs.ValuesLaw.{value_agree, cubic_agree}
 use Rattle.operations.specs.Operations.{packing, packed_into, copying, differences_into}
 use Rattle.opening.specs.declared.Record.{Record}
-use Rattle.opening.specs.Opened.{opened_at, no_record, open_verdict, open_of}
+use Rattle.opening.specs.Opened.{opened_at, open_verdict, open_of, record_of}
 use Rattle.opening.proofs.PlaceLaw.{two}
-use Rattle.opening.proofs.VerdictLaw.{verdict_done}
+use Rattle.opening.proofs.VerdictLaw.{verdict_done, opened_record}
 use Rattle.outcomes.specs.Search.{trail_behind}
 use Rattle.demand.specs.Session.{session_of}
 use Rattle.demand.specs.Demand.{CommonZero, from_start}
@@ -146,7 +144,7 @@ packing_is : (d : Degree) (n m : ℕ) (rows : List ℤ) (c : List ℕ) → packi
 packing_is Two n m rows c = refl
 packing_is Three n m rows c = refl
 
-packed_is : (d : Degree) (n m : ℕ) (rows : List ℤ) (c : List ℕ) → packing d n m rows c ≡ verdict.Done → packed_into d n m rows c ≡ packed_rows (count_in d n) m rows
+packed_is : (d : Degree) (n m : ℕ) (rows : List ℤ) (c : List ℕ) → packing d n m rows c ≡ done → packed_into d n m rows c ≡ packed_rows (count_in d n) m rows
 unfolding packed cubic_packed
 packed_is Two n m rows c ok = ap (λ (v : Verdict). after v c (packed n m rows)) ok
 packed_is Three n m rows c ok = ap (λ (v : Verdict). after v c (cubic_packed n m rows)) ok
@@ -155,7 +153,7 @@ copying_is : (d : Degree) (n m : ℕ) (from to : List ℕ) → copying d n m fro
 copying_is Two n m from to = refl
 copying_is Three n m from to = refl
 
-differences_are : (d : Degree) (n m : ℕ) (rows : List ℤ) (c t : List ℕ) → c ≡ packed_rows (count_in d n) m rows → copying d n m c t ≡ verdict.Done
+differences_are : (d : Degree) (n m : ℕ) (rows : List ℤ) (c t : List ℕ) → c ≡ packed_rows (count_in d n) m rows → copying d n m c t ≡ done
     → differences_into d n m c t ≡ rows_words d n m rows
 unfolding packed cubic_packed
 differences_are Two n m rows c t e ok = ap (λ (v : Verdict). after v t (differences_of n m c)) ok ∙ ap (differences_of n m) e
@@ -224,7 +222,7 @@ places_back n (x ∷ l) h =
     ap₂ (λ (y : ℕ) (k : List ℕ). y ∷ k) (place_of_point 3 two n x (h 0 (omega arith))) (places_back n l (λ i k. h (suc i) (omega arith)))
 
 -- ---- the whole way, where nothing is refused
-module _ (d : Degree) (n m : ℕ) (rows : List ℤ) (c t : List ℕ) (ok : packing d n m rows c ≡ verdict.Done) (room : length t ≡ 2 * count_in d n) where
+module _ (d : Degree) (n m : ℕ) (rows : List ℤ) (c t : List ℕ) (ok : packing d n m rows c ≡ done) (room : length t ≡ 2 * count_in d n) where
   abbrev g : Given
   g = rows_table d n m rows
 
@@ -237,7 +235,7 @@ module _ (d : Degree) (n m : ℕ) (rows : List ℤ) (c t : List ℕ) (ok : packi
   left : packed_into d n m rows c ≡ words
   left = packed_is d n m rows c ok
 
-  copies : copying d n m (packed_into d n m rows c) t ≡ verdict.Done
+  copies : copying d n m (packed_into d n m rows c) t ≡ done
   copies =
       let a = rows_table_lem (count_in d n) m rows in
       ap (λ (w : List ℕ). copying d n m w t) left ∙ copying_is d n m words t ∙ sized_next n m (entries_verdict (count_in d n) m words t) inside
@@ -249,11 +247,11 @@ module _ (d : Degree) (n m : ℕ) (rows : List ℤ) (c t : List ℕ) (ok : packi
   checked : Checked g
   checked = made_checked d n m rows inside
 
-  opens : open_verdict g 0 ≡ verdict.Done
+  opens : open_verdict g 0 ≡ done
   opens = verdict_done g 0 checked (omega arith)
 
-  opened_is : (open_of g 0).«record» ≡ opened_at g 0
-  opened_is = ap (λ (v : Verdict). after v no_record (opened_at g 0)) opens
+  opened_is : record_of (open_of g 0) ≡ opened_at g 0
+  opened_is = opened_record g 0 checked (omega arith)
 
   whole : (qs : List Request) → SaysEnded (from_start g qs).told → ListsZeros d n m rows (from_start g qs).listed
   whole qs e =

@@ -1,5 +1,6 @@
 -- The search of a checked table serves the walk of its system: from the record at a place a call is refused for its budget or its list
 -- and changes nothing, or it is a call on the walk.
+use Rattle.std.specs.Prelude.{Ok, Err}
 use mathlib.Core.Path.{◌≡◌, refl, ap, ◌∙◌}
 use mathlib.Core.Bool.{Bool, true, false}
 use mathlib.Core.Logic.{◌⊎◌, inl, inr}
@@ -10,15 +11,12 @@ use lib.Dec.{eqb}
 use lib.ListN.{length}
 use borrow.Author.Tests.{ne_eqb, eqb-false}
 use Rattle.refusals.specs.declared.Refusal.TheVariants as refusal
-use Rattle.refusals.specs.declared.Verdict.{Verdict}
-use Rattle.refusals.specs.declared.Verdict.TheVariants as verdict
-use Rattle.refusals.specs.Refusal.{refuse, after}
+use Rattle.refusals.specs.Refusal.{Verdict, refuse, after, done}
 use Rattle.walks.specs.Calls.{Trail, points_in, report_of, list_after}
 use Rattle.walks.specs.Runs.{Request, Reply, away_with, ran_by, Asks, Serves, Willing}
 use Rattle.walks.specs.declared.Report.{Report}
 use Rattle.given.specs.Given.{Given, Checked}
 use Rattle.opening.specs.declared.Record.{Record}
-use Rattle.outcomes.specs.declared.Answer.TheVariants.{Ran}
 use Rattle.opening.specs.Opened.{opened_at}
 use Rattle.outcomes.specs.Search.{trail_behind, answer_from}
 use Rattle.demand.specs.Session.{told_of, call_of}
@@ -26,13 +24,13 @@ use Rattle.outcomes.proofs.VerdictLaw.{asked, verdict_opened}
 
 -- what a call gives back, by the verdict
 abbrev reply_from : Verdict → Record → Report → Record → List ℕ → List ℕ → Reply Record
-reply_from v r w s k l = record { told = told_of (answer_from v (record { answer = Ran w; «record» = s })); state = after v r s; list = after v k l }
+reply_from v r w s k l = record { told = told_of (answer_from v (record { answer = Ok w; «record» = s })); state = after v r s; list = after v k l }
 
 -- the verdict on a request, by what is asked of its budget and of its list
 asked_by : (q : Request) (x y : Bool) → eqb q.budget 0 ≡ x → eqb (length q.list) 0 ≡ y
-    → asked q.budget q.list ≡ refuse x refusal.Budget (refuse y refusal.List verdict.Done)
-asked_by q x y b c = ap (λ (z : Bool). refuse z refusal.Budget (refuse (eqb (length q.list) 0) refusal.List verdict.Done)) b
-    ∙ ap (λ (z : Bool). refuse x refusal.Budget (refuse z refusal.List verdict.Done)) c
+    → asked q.budget q.list ≡ refuse x refusal.Budget (refuse y refusal.List done)
+asked_by q x y b c = ap (λ (z : Bool). refuse z refusal.Budget (refuse (eqb (length q.list) 0) refusal.List done)) b
+    ∙ ap (λ (z : Bool). refuse x refusal.Budget (refuse z refusal.List done)) c
 
 module _ (g : Given) (ok : Checked g) where
   abbrev T : Trail
@@ -50,7 +48,7 @@ module _ (g : Given) (ok : Checked g) where
   pub willing : Willing T (opened_at g) (call_of g)
   unfolding trail_behind
   willing p q h a =
-      call_by p q verdict.Done h (asked_by q false false (ne_eqb q.budget 0 (λ z. omega (arith, a.budget))) (ne_eqb (length q.list) 0 (λ z. omega (arith, a.room))))
+      call_by p q done h (asked_by q false false (ne_eqb q.budget 0 (λ z. omega (arith, a.budget))) (ne_eqb (length q.list) 0 (λ z. omega (arith, a.room))))
 
   pub serves : Serves T (opened_at g) (call_of g)
   unfolding trail_behind
@@ -61,8 +59,8 @@ module _ (g : Given) (ok : Checked g) where
 
       go : (x y : Bool) → eqb q.budget 0 ≡ x → eqb (length q.list) 0 ≡ y
           → (call_of g (opened_at g p) q ≡ away_with (opened_at g p) q) ⊎ (Asks q × (call_of g (opened_at g p) q ≡ ran_by T (opened_at g) p q))
-      go true y b c = inl (call_by p q (verdict.Refused refusal.Budget) h (asked_by q true y b c))
-      go false true b c = inl (call_by p q (verdict.Refused refusal.List) h (asked_by q false true b c))
+      go true y b c = inl (call_by p q (Err refusal.Budget) h (asked_by q true y b c))
+      go false true b c = inl (call_by p q (Err refusal.List) h (asked_by q false true b c))
       go false false b c =
           let a : Asks q = record { budget = above q.budget (eqb-false _ _ b); room = above (length q.list) (eqb-false _ _ c) } in
           inr (a, willing p q h a)

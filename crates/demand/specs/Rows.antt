@@ -1,6 +1,6 @@
 -- From rows to zeros: what a user has who packs signed rows of either degree, takes the differences, opens at place 0 and searches until "ended".
 use Rattle.std.specs.Prelude.{◌≡◌, ◌↔◌, List, map, ℕ, zero, suc, ◌+◌, ◌*◌, ◌^◌, ◌<◌, ℤ, pos, ◌+ℤ◌, ◌*ℤ◌, get_or}
-use Rattle.refusals.specs.declared.Verdict.TheVariants.{Done}
+use Rattle.refusals.specs.Refusal.{done}
 use Rattle.residues.specs.Residue.{floor_mod}
 use Rattle.gray.specs.Numbers.{digit, place_of}
 use Rattle.tables.specs.Words.{packed, differences_of}
@@ -15,7 +15,7 @@ use Rattle.held.specs.Stands.{trail_of}
 use Rattle.given.specs.Given.{Given, depth_of, count_in, table_with}
 use Rattle.operations.specs.Operations.{packed_into, copying, differences_into}
 use Rattle.opening.specs.declared.Record.{Record}
-use Rattle.opening.specs.Opened.{open_verdict, open_of}
+use Rattle.opening.specs.Opened.{open_verdict, open_of, record_of}
 use Rattle.demand.specs.Session.{session_of}
 
 -- h 0 + .. + h (n - 1), over the integers
@@ -60,12 +60,12 @@ table_from d n m rows c t = table_with d n m (differences_into d n m (packed_int
 
 -- the run of calls on the record that opening at place 0 gives
 abbrev pub run_from : Given → List Request → Sums Record
-run_from g qs = session_of g (open_of g 0).«record» qs
+run_from g qs = session_of g (record_of (open_of g 0)) qs
 
 -- nothing on the way is refused, and every run whose last accepted answer is "ended" lists the zeros of the rows
 pub record FromRows (d : Degree) (n m : ℕ) (rows : List ℤ) (c t : List ℕ) : Type 0 where
-  pub differences : copying d n m (packed_into d n m rows c) t ≡ Done
+  pub differences : copying d n m (packed_into d n m rows c) t ≡ done
   pub table : table_from d n m rows c t ≡ rows_table d n m rows
-  pub opened : open_verdict (table_from d n m rows c t) 0 ≡ Done
+  pub opened : open_verdict (table_from d n m rows c t) 0 ≡ done
   pub lists : (qs : List Request) → SaysEnded (run_from (table_from d n m rows c t) qs).told
       → ListsZeros d n m rows (run_from (table_from d n m rows c t) qs).listed

@@ -1,18 +1,17 @@
 -- A run of calls on one record of one table: the search as an engine (walks/specs/Runs), and what its calls give together.
 use Rattle.std.proofs.Math.Option.{Option, none, some}
-use Rattle.std.specs.Prelude.{List, ℕ}
+use Rattle.std.specs.Prelude.{List, ℕ, Ok, Err}
 use Rattle.walks.specs.declared.Report.{Report}
 use Rattle.walks.specs.Runs.{Request, Engine, listed_in, Sums, sums_of}
 use Rattle.given.specs.Given.{Given}
 use Rattle.opening.specs.declared.Record.{Record}
-use Rattle.outcomes.specs.declared.Answer.{Answer}
-use Rattle.outcomes.specs.declared.Answer.TheVariants.{Ran, Refused}
+use Rattle.outcomes.specs.Search.{Answer}
 use Rattle.outcomes.specs.Search.{outcome_of, list_left}
 
 -- what an answer tells: its report, or none with a refusal
 abbrev pub told_of : Answer → Option Report
-told_of (Ran w) = some w
-told_of (Refused f) = none
+told_of (Ok w) = some w
+told_of (Err f) = none
 
 -- the entries that a call listed: the first `found` of its list
 abbrev pub listed_of : Answer → List ℕ → List ℕ

@@ -9,8 +9,8 @@ ghost use Rattle.tables.specs.Monomials.{count_of};
 ghost use Rattle.tables.specs.Words.{Table, differences_of, coefficients_of};
 ghost use Rattle.tables.specs.Answers.{copy_verdict, differences_after, coefficients_after};
 
-use checks::check_copy;
-use refusals::Verdict;
+use checks::{Quadratic, check_copy};
+use refusals::Refusal;
 use tables::{put_entry, vector};
 use turns::{product_before, turn};
 
@@ -20,11 +20,8 @@ pub fn differences_into(from: &[u64], to: &mut [u64], n: usize)
     ensures { (m : ℕ) → Table n m from.now → to.new ≡ differences_of n m from.now }
 {
     put_entry(to, 0, vector(from, 0));
-    let mut i: usize = 0;
-    while i < n {
-        let p = product_before(from, n, i);
-        turn(from, to, n, i, p);
-        i += 1;
+    for i in 0..n {
+        turn(from, to, n, i, product_before(from, n, i));
     }
 }
 
@@ -34,36 +31,30 @@ pub fn coefficients_into(from: &[u64], to: &mut [u64], n: usize)
     ensures { (m : ℕ) → Table n m from.now → to.new ≡ coefficients_of n m from.now }
 {
     put_entry(to, 0, vector(from, 0));
-    let mut i: usize = 0;
-    while i < n {
+    for i in 0..n {
         let p = product_before(to, n, i);
         turn(from, to, n, i, p);
-        i += 1;
     }
 }
 
 // The table of differences of a coefficient table: `table` is written whole, or on a refusal left as it was.
-pub fn differences(n: u64, m: u64, coefficients: &[u64], table: &mut [u64]) -> Verdict
+pub fn differences(n: u64, m: u64, coefficients: &[u64], table: &mut [u64]) -> Result<(), Refusal>
     ensures answer { result ≡ copy_verdict n m coefficients.now table.old }
     ensures left { table.new ≡ differences_after n m coefficients.now table.old }
     ensures number { code_of result ≡ code_of (copy_verdict n m coefficients.now table.old) }
 {
-    let verdict = check_copy(n, m, coefficients, table.len());
-    if let Verdict::Done = verdict {
-        differences_into(coefficients, table, n as usize);
-    }
-    verdict
+    check_copy::<Quadratic>(n, m, coefficients, table.len())?;
+    differences_into(coefficients, table, n as usize);
+    Ok(())
 }
 
 // The coefficients of a table of differences: `coefficients` is written whole, or on a refusal left as it was.
-pub fn coefficients(n: u64, m: u64, table: &[u64], coefficients: &mut [u64]) -> Verdict
+pub fn coefficients(n: u64, m: u64, table: &[u64], coefficients: &mut [u64]) -> Result<(), Refusal>
     ensures answer { result ≡ copy_verdict n m table.now coefficients.old }
     ensures left { coefficients.new ≡ coefficients_after n m table.now coefficients.old }
     ensures number { code_of result ≡ code_of (copy_verdict n m table.now coefficients.old) }
 {
-    let judged = check_copy(n, m, table, coefficients.len());
-    if let Verdict::Done = judged {
-        coefficients_into(table, coefficients, n as usize);
-    }
-    judged
+    check_copy::<Quadratic>(n, m, table, coefficients.len())?;
+    coefficients_into(table, coefficients, n as usize);
+    Ok(())
 }

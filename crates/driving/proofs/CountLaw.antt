@@ -1,4 +1,5 @@
 -- The bytes taken are counted: before each call as many are still to be taken as are left to write.
+use Rattle.std.specs.Prelude.{Option, Some}
 use mathlib.Core.Path.{◌≡◌, refl, sym, ap, ap₂, ◌∙◌}
 use mathlib.Core.Bool.{true, false, not, true≢false}
 use mathlib.Core.List.{List}
@@ -16,6 +17,7 @@ use Rattle.listing.specs.Listing.{totals_line}
 use Rattle.planner.specs.declared.Session.{Session}
 use Rattle.planner.specs.Output.{own_table, left_of, totals_of, Standing, Went}
 use Rattle.planner.proofs.DriveLaw.{calls_left, calls_most, falls, left_none}
+use Rattle.driving.specs.declared.Totals.{Totals}
 
 -- of the walk that began at g, with `first` bytes taken before it, `sent` bytes are taken at s; a call sends at most 65,536
 pub record Counted (t : List ℕ) (g : Session) (first : ℕ) (s : Session) (sent : ℕ) : Type 0 where
@@ -77,3 +79,14 @@ totals_are t g first s sent h o =
     ap₂ (totals_line s.points) h.standing.additions h.standing.found
     ∙ ap (λ (x : ℕ). totals_line x (cost_in T 0 x) (length (zeros_in T 0 x))) p
     ∙ ap₂ (λ (x y : ℕ). totals_of (trail_behind (quadratic x y t))) h.unknowns h.equations
+
+same_totals : (v w : Totals) → ◌≡◌ {A = Option Totals} (Some v) (Some w) → w ≡ v
+same_totals v w e = cc
+
+-- those that are told are its own
+pub totals_told : (t : List ℕ) (g : Session) (first : ℕ) (s : Session) (sent : ℕ) → Counted t g first s sent → s.open ≡ false → (w : Totals)
+    → ◌≡◌ {A = Option Totals} (Some (record { points = s.points; additions = s.additions; found = s.found })) (Some w)
+    → totals_line w.points w.additions w.found ≡ totals_of (trail_behind (own_table t g))
+totals_told t g first s sent h o w e =
+    ap (λ (x : Totals). totals_line x.points x.additions x.found) (same_totals (record { points = s.points; additions = s.additions; found = s.found }) w e)
+    ∙ totals_are t g first s sent h o

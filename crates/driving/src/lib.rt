@@ -14,14 +14,19 @@ use streams::Output;
 // At most so many points a call, so that progress shows: 2^26.
 const BUDGET: u64 = 67108864;
 
-// What the calls so far did, how many bytes of the output were taken, and whether those are all.
-#[derive(Drop)]
-pub struct Driven {
+// What the calls of a whole walk did.
+#[derive(Clone, Copy, PartialEq, Eq)]
+pub struct Totals {
     pub points: u64,
     pub additions: u64,
     pub found: u64,
+}
+
+// How many bytes of the output were taken, and what the calls did if those are all.
+#[derive(Drop)]
+pub struct Driven {
     pub sent: u64,
-    pub all: bool,
+    pub totals: Option<Totals>,
 }
 
 // The calls after the first text, each written before the next; so many bytes were taken before them.
@@ -49,21 +54,17 @@ pub fn drive(
         let got = streams::send(out, &text[..used]);
         sent += got as u64;
         if got < used {
-            return Driven {
-                points: s.points,
-                additions: s.additions,
-                found: s.found,
-                sent,
-                all: false,
-            };
+            return Driven { sent, totals: None };
         }
         shown = progress::show(rt, screen, shown, before, s);
     }
-    Driven {
+    let totals = Totals {
         points: s.points,
         additions: s.additions,
         found: s.found,
+    };
+    Driven {
         sent,
-        all: true,
+        totals: Some(totals),
     }
 }

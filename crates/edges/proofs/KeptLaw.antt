@@ -1,46 +1,31 @@
 -- What is kept between two lines, for each way that a line is taken.
 use mathlib.Core.Path.{◌≡◌, sym, ap, ◌∙◌}
-use mathlib.Core.Bool.{true, false, true≢false}
+use mathlib.Core.Bool.{true, false}
 use mathlib.Core.List.{List, [], ◌∷◌, ◌++◌}
 use Prim.Native.Nat.{ℕ, ◌+◌, ◌≤◌, ◌<◌}
 use native.Mathlib.Omega.{arith}
-use lib.ListN.{set, replicate}
+use lib.ListN.{set}
+use Rattle.std.specs.Prelude.{Some}
 use Rattle.refusals.specs.declared.Refusal.TheVariants as why
-use Rattle.refusals.specs.declared.Verdict.{Verdict}
+use Rattle.refusals.specs.Refusal.{Verdict}
 use Rattle.graphs.specs.declared.Graph.{Graph}
 use Rattle.graphs.specs.Edges.{has_edge}
 use Rattle.graphs.specs.Reading.{vertices_most, lines_most, edges_most, on, stop, full_fault, carry}
-use Rattle.graphs.specs.Scans.{edges_of, state_of, cell_of, cells, Seen, Kept, Fits, pair_state}
-use Rattle.graphs.proofs.EdgeLaw.{once_again, once_new, full_again, full_room, full_refused, seen_none, seen_next}
+use Rattle.graphs.specs.Scans.{edges_of, state_of, cell_of, Seen, Kept, Fits, pair_state}
+use Rattle.graphs.proofs.EdgeLaw.{once_again, once_new, full_again, full_room, full_refused, seen_next}
 use Rattle.graphs.proofs.ReadLaw.{length_ends, ends_none, state_is}
 
--- before the first line
-pub kept_start : (r : Graph) → r.vertices ≡ 0 → r.edges ≡ 0 → r.count ≡ 0 → Kept r (replicate cells 0)
-kept_start r v e c =
-    record {
-      seen = rw (ends_none r.count r.one r.other c) seen_none;
-      none = λ q. c;
-      vertices = omega (arith, v);
-      promised = omega (arith, e);
-      few = omega (arith, c);
-    }
-
 -- the p line
-pub kept_fresh : (g r : Graph) (s : List ℕ) → Kept g s → g.known ≡ false → r.vertices ≤ vertices_most → r.edges ≤ lines_most → r.count ≡ 0 → Kept r s
-kept_fresh g r s k f v e c =
-    let z : Seen [] s = rw (ends_none g.count g.one g.other (k.none f)) at k.seen in
+pub kept_fresh : (r : Graph) (s : List ℕ) → Seen [] s → r.vertices ≤ vertices_most → r.edges ≤ lines_most → r.count ≡ 0 → Kept r s
+kept_fresh r s k v e c =
     record {
-      seen = rw (ends_none r.count r.one r.other c) z;
-      none = λ q. c;
+      seen = rw (ends_none r.count r.one r.other c) k;
       vertices = v;
       promised = e;
       few = omega (arith, c);
     }
 
-module _ (g r : Graph) (s : List ℕ) (a b : ℕ) (k : Kept g s) (f : Fits g a b) (rk : r.known ≡ g.known) (rv : r.vertices ≡ g.vertices) (re : r.edges ≡ g.edges) (rl : r.lines ≡ g.lines + 1) where
-  known : r.known ≡ true
-  known = rk ∙ f.known
-
+module _ (g r : Graph) (s : List ℕ) (a b : ℕ) (k : Kept g s) (f : Fits g a b) (rv : r.vertices ≡ g.vertices) (re : r.edges ≡ g.edges) (rl : r.lines ≡ g.lines + 1) where
   -- a repeat
   module _ (rc : r.count ≡ g.count) (ro : r.one ≡ g.one) (rt : r.other ≡ g.other) where
     same : edges_of r ≡ edges_of g
@@ -50,15 +35,14 @@ module _ (g r : Graph) (s : List ℕ) (a b : ℕ) (k : Kept g s) (f : Fits g a b
     kept_again =
         record {
           seen = rw same k.seen;
-          none = λ q. absurd (true≢false (sym known ∙ q));
           vertices = omega (arith, rv, k.vertices);
           promised = omega (arith, re, k.promised);
           few = omega (arith, rc, k.few);
         }
 
-    pub pair_again : has_edge (edges_of g) a b ≡ true → on (state_of r) ≡ carry (full_fault (edges_of g) a b) (pair_state g a b)
+    pub pair_again : has_edge (edges_of g) a b ≡ true → on (state_of (Some r)) ≡ carry (full_fault (edges_of g) a b) (pair_state g a b)
     pair_again h =
-        ap on (state_is known rv re rl (same ∙ sym (once_again (edges_of g) a b h)))
+        ap on (state_is rv re rl (same ∙ sym (once_again (edges_of g) a b h)))
         ∙ sym (ap (λ (v : Verdict). carry v (pair_state g a b)) (full_again (edges_of g) a b h))
 
   -- a new edge
@@ -67,15 +51,14 @@ module _ (g r : Graph) (s : List ℕ) (a b : ℕ) (k : Kept g s) (f : Fits g a b
     kept_next =
         record {
           seen = rw more (seen_next (edges_of g) s a b k.seen (omega (arith, f.one_most, k.vertices)) (omega (arith, f.other_most, k.vertices)));
-          none = λ q. absurd (true≢false (sym known ∙ q));
           vertices = omega (arith, rv, k.vertices);
           promised = omega (arith, re, k.promised);
           few = omega (arith, rc, room);
         }
 
-    pub pair_next : has_edge (edges_of g) a b ≡ false → on (state_of r) ≡ carry (full_fault (edges_of g) a b) (pair_state g a b)
+    pub pair_next : has_edge (edges_of g) a b ≡ false → on (state_of (Some r)) ≡ carry (full_fault (edges_of g) a b) (pair_state g a b)
     pair_next h =
-        ap on (state_is known rv re rl (more ∙ sym (once_new (edges_of g) a b h)))
+        ap on (state_is rv re rl (more ∙ sym (once_new (edges_of g) a b h)))
         ∙ sym (ap (λ (v : Verdict). carry v (pair_state g a b)) (full_room (edges_of g) a b (omega (arith, room, length_ends g.count g.one g.other))))
 
 -- the 65th

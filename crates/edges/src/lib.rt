@@ -2,22 +2,15 @@
 // Contracts cite graphs/specs/Reading (what is refused) and graphs/specs/Scans (what the graph and the flags stand for).
 #![tactic(auto)]
 
-ghost use Rattle.std.specs.Prelude.{◌≡◌, [], ◌∷◌, ◌++◌, ◌+◌, ◌≤◌, ◌<◌, eqb, get_or, set};
+ghost use Rattle.std.specs.Prelude.{◌≡◌, [], ◌∷◌, ◌++◌, ◌+◌, ◌≤◌, ◌<◌, eqb, get_or, set, MatchResult};
 ghost use Rattle.graphs.specs.Reading.{vertices_most, lines_most, edges_most, full_fault, carry};
-ghost use Rattle.graphs.specs.Scans.{state_of, edges_of, cell_of, Kept, Fits, pair_state};
+ghost use Rattle.graphs.specs.Scans.{edges_of, cell_of, taken, Kept, Fits, pair_state};
 
 use graphs::Graph;
-use refusals::{Refusal, Verdict};
+use refusals::Refusal;
 
 // A graph has at most so many different edges, one for each equation.
 const EDGES_MOST: u64 = 64;
-
-// The graph after one more line, or why the line is refused.
-#[derive(Drop)]
-pub struct Taken {
-    pub verdict: Verdict,
-    pub graph: Graph,
-}
 
 // Whether there was an edge between a and b.
 fn seen_at(seen: &[u8; 441], a: u64, b: u64) -> bool
@@ -39,70 +32,35 @@ fn note(seen: &mut [u8; 441], a: u64, b: u64)
     seen[j] = 1;
 }
 
-// The graph after a line that gives no new edge.
-fn repeated(g: Graph) -> Graph
-    requires { g.lines < lines_most }
-    ensures { (result.known ≡ g.known) × (result.vertices ≡ g.vertices) × (result.edges ≡ g.edges) × (result.lines ≡ g.lines + 1) × (result.count ≡ g.count)
-        × (result.one ≡ g.one) × (result.other ≡ g.other) }
-{
-    let one = g.one;
-    let other = g.other;
-    Graph {
-        known: g.known,
-        vertices: g.vertices,
-        edges: g.edges,
-        lines: g.lines + 1,
-        count: g.count,
-        one,
-        other,
-    }
-}
-
 // The graph with one more edge.
-fn joined(g: Graph, a: u64, b: u64) -> Graph
+fn joined(mut g: Graph, a: u64, b: u64) -> Graph
     requires { (g.lines < lines_most) × (g.count < edges_most) × (a ≤ vertices_most) × (b ≤ vertices_most) }
-    ensures { (result.known ≡ g.known) × (result.vertices ≡ g.vertices) × (result.edges ≡ g.edges) × (result.lines ≡ g.lines + 1) × (result.count ≡ g.count + 1)
+    ensures { (result.vertices ≡ g.vertices) × (result.edges ≡ g.edges) × (result.lines ≡ g.lines + 1) × (result.count ≡ g.count + 1)
         × (edges_of result ≡ edges_of g ++ (record { one = a; other = b } ∷ [])) }
 {
     let k = g.count as usize;
-    let mut one = g.one;
-    one[k] = a as u8;
-    let mut other = g.other;
-    other[k] = b as u8;
-    Graph {
-        known: g.known,
-        vertices: g.vertices,
-        edges: g.edges,
-        lines: g.lines + 1,
-        count: g.count + 1,
-        one,
-        other,
-    }
+    g.one[k] = a as u8;
+    g.other[k] = b as u8;
+    g.lines += 1;
+    g.count += 1;
+    g
 }
 
 // An edge that fits: a repeat gives nothing new, a new one needs room.
-pub fn take_pair(g: Graph, seen: &mut [u8; 441], a: u64, b: u64) -> Taken
+pub fn take_pair(g: Graph, seen: &mut [u8; 441], a: u64, b: u64) -> Result<Graph, Refusal>
     requires { Kept g seen.old × Fits g a b }
-    ensures { (carry result.verdict (state_of result.graph) ≡ carry (full_fault (edges_of g) a b) (pair_state g a b)) × Kept result.graph seen.new }
+    ensures { (taken result ≡ carry (full_fault (edges_of g) a b) (pair_state g a b))
+        × MatchResult result (λ h. Kept h seen.new) (λ _. seen.new ≡ seen.old) }
 {
     if seen_at(seen, a, b) {
-        let same = repeated(g);
-        return Taken {
-            verdict: Verdict::Done,
-            graph: same,
-        };
+        return Ok(Graph {
+            lines: g.lines + 1,
+            ..g
+        });
     }
     if g.count >= EDGES_MOST {
-        let full = Verdict::Refused(Refusal::Edges);
-        return Taken {
-            verdict: full,
-            graph: g,
-        };
+        return Err(Refusal::Edges);
     }
     note(seen, a, b);
-    let more = joined(g, a, b);
-    Taken {
-        verdict: Verdict::Done,
-        graph: more,
-    }
+    Ok(joined(g, a, b))
 }

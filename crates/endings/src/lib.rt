@@ -6,10 +6,11 @@ ghost use Rattle.endings.specs.Endings.{Concludes, Delivers};
 
 use streams::Output;
 
-// How many bytes are to be told, how many bytes of the output were taken, and whether it was well at its end (`streams::finish`).
+// How many bytes are to be told, if any are, how many bytes of the output were taken, and whether it was well at its end
+// (`streams::finish`): that is no Option's flag, for it is said where nothing was to be told, too (specs/Endings).
 #[derive(Drop)]
 pub struct Ending {
-    pub told: usize,
+    pub told: Option<usize>,
     pub sent: u64,
     pub closed: bool,
 }
@@ -19,14 +20,11 @@ pub fn concluded(rt: &HostRuntime, told: usize, sent: u64) -> Ending
     ensures { Concludes told sent result }
 {
     let closed = streams::finish(rt);
-    if !closed {
-        return Ending {
-            told: 0,
-            sent,
-            closed,
-        };
+    Ending {
+        told: closed.then_some(told),
+        sent,
+        closed,
     }
-    Ending { told, sent, closed }
 }
 
 // The whole output in one text, and its end.
@@ -37,7 +35,7 @@ pub fn deliver(rt: &HostRuntime, out: &mut Output, output: &[u8], told: usize) -
     let sent = got as u64;
     if got < output.len() {
         return Ending {
-            told: 0,
+            told: None,
             sent,
             closed: false,
         };

@@ -1,7 +1,7 @@
 // The coefficient words of a graph: one equation for each edge. Contracts cite specs/Equations; specs/Parts says what the steps do.
 #![tactic(auto)]
 
-ghost use Rattle.std.specs.Prelude.{◌≡◌, ◌+◌, ◌*◌, ◌<◌, ◌≤◌, min, max, length, replicate};
+ghost use Rattle.std.specs.Prelude.{◌≡◌, ◌+◌, ◌*◌, ◌<◌, ◌≤◌, length};
 ghost use Rattle.tables.specs.Monomials.{count_of};
 ghost use Rattle.tables.specs.Words.{words_of};
 ghost use Rattle.graphs.specs.Drawn.{Drawn};
@@ -10,21 +10,9 @@ ghost use Rattle.equations.specs.Equations.{system_of};
 ghost use Rattle.equations.specs.Parts.{Marked, Joined};
 
 use graphs::Graph;
-use lines::wide;
 use single_trits::with_trit;
 use tables::index;
 use trits::Vector;
-
-// Every word becomes 0.
-fn clear(table: &mut [u64])
-    ensures { table.new ≡ replicate (length table.old) 0 }
-{
-    let mut i: usize = 0;
-    while i < table.len() {
-        table[i] = 0;
-        i += 1;
-    }
-}
 
 // Coefficient number k of equation e becomes t.
 fn mark(table: &mut [u64], k: usize, e: u64, t: u64)
@@ -50,34 +38,17 @@ fn put_edge(table: &mut [u64], n: usize, a: usize, b: usize, e: u64)
     mark(table, index(n, a, b), e, 1);
 }
 
-// The smaller and the larger of two numbers.
-fn lesser(a: u64, b: u64) -> u64
-    ensures { result ≡ min a b }
-{
-    if a < b { a } else { b }
-}
-
-fn greater(a: u64, b: u64) -> u64
-    ensures { result ≡ max a b }
-{
-    if a < b { b } else { a }
-}
-
 // The whole table.
 pub fn write(table: &mut [u64], g: Graph)
     requires { (length table.old ≡ 2 * count_of g.vertices) × Drawn g.vertices (edges_of g) }
     ensures { table.new ≡ words_of g.vertices g.count (system_of (edges_of g)) }
 {
-    clear(table);
+    table.fill(0);
     let n = g.vertices as usize;
-    let mut e: u64 = 0;
-    while e < g.count {
+    for e in 0..g.count {
         let k = e as usize;
-        let a = wide(g.one[k]);
-        let b = wide(g.other[k]);
-        let low = lesser(a, b) as usize;
-        let high = greater(a, b) as usize;
-        put_edge(table, n, low - 1, high - 1, e);
-        e += 1;
+        let a = g.one[k];
+        let b = g.other[k];
+        put_edge(table, n, a.min(b) as usize - 1, a.max(b) as usize - 1, e);
     }
 }

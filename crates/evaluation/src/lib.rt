@@ -12,12 +12,12 @@ ghost use Rattle.tables.specs.Words.{Table, poly_at};
 ghost use Rattle.evaluation.specs.Parts.{row_of};
 ghost use Rattle.tables.specs.Answers.{evaluate_of, Tells};
 
-use checks::check;
+use checks::{Quadratic, check};
 use gray::Point;
 use listed::{nonzero_into, row, turned};
 use positions::power;
-use refusals::{MOST_UNKNOWNS, Refusal, Verdict};
-use tables::{Evaluated, index, vector};
+use refusals::{MOST_UNKNOWNS, Refusal};
+use tables::{index, vector};
 use trits::{Vector, add};
 
 // The 20 lowest digits of a point.
@@ -26,11 +26,9 @@ pub fn digits(x: u64) -> [u64; MOST_UNKNOWNS]
 {
     let mut r = [0u64; MOST_UNKNOWNS];
     let mut rest = x;
-    let mut k: usize = 0;
-    while k < MOST_UNKNOWNS {
-        r[k] = rest % 3;
-        rest = rest / 3;
-        k += 1;
+    for digit in &mut r {
+        *digit = rest % 3;
+        rest /= 3;
     }
     r
 }
@@ -67,11 +65,8 @@ fn value_of(
         → Holds m (λ e. value_of (poly_at n table.now e) n x) result }
 {
     let mut v = vector(table, 0);
-    let mut s: usize = 0;
-    while s < count {
-        let w = turned(row_value(table, n, at, turn, s, count), turn[s]);
-        v = add(v, w);
-        s += 1;
+    for s in 0..count {
+        v = add(v, turned(row_value(table, n, at, turn, s, count), turn[s]));
     }
     v
 }
@@ -88,18 +83,12 @@ pub fn value_at(table: &[u64], n: usize, x: &[u64; MOST_UNKNOWNS]) -> Vector
 }
 
 // The value of each equation at a point.
-pub fn evaluate(n: u64, m: u64, coefficients: &[u64], x: Point) -> Evaluated
+pub fn evaluate(n: u64, m: u64, coefficients: &[u64], x: Point) -> Result<Vector, Refusal>
     ensures { (result ≡ evaluate_of n m coefficients.now x.0) × Tells n m coefficients.now x.0 result }
 {
-    let verdict = check(n, m, coefficients);
-    match verdict {
-        Verdict::Refused(r) => Evaluated::Refused(r),
-        Verdict::Done => {
-            if x.0 >= power(n) {
-                return Evaluated::Refused(Refusal::Range);
-            }
-            let d = digits(x.0);
-            Evaluated::Value(value_at(coefficients, n as usize, &d))
-        }
+    check::<Quadratic>(n, m, coefficients)?;
+    if x.0 >= power(n) {
+        return Err(Refusal::Range);
     }
+    Ok(value_at(coefficients, n as usize, &digits(x.0)))
 }

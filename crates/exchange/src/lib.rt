@@ -3,13 +3,12 @@
 // and specs/Answers. For callers that are told by words it is the crate tidy_calls.
 #![tactic(auto)]
 
-ghost use Rattle.std.specs.Prelude.{◌≡◌, ◌≤◌, ltb, length};
-ghost use Rattle.refusals.specs.Choice.{pick};
+ghost use Rattle.std.specs.Prelude.{◌≡◌, ◌≤◌, length};
 ghost use Rattle.graphs.specs.Reading.{text_most};
 ghost use Rattle.exchange.specs.Answers.{tidied, answer_of, out_after, Answers, Reads};
 
-use graphs::TEXT_MOST;
-use refusals::{Refusal, Verdict};
+use graphs::{Fault, TEXT_MOST};
+use refusals::Refusal;
 use scans::read_lines;
 use tallies::count_lines;
 use texts::put;
@@ -18,74 +17,54 @@ use tidying::put_tidy;
 // The bytes of the page on which a text is put before it is known to fit.
 const PAGE: usize = 19453;
 
-// The bytes written and what the text had: comments, repeated edges, and lines with the larger vertex first; or why nothing was written
-// and in which line: 0 where no line applies.
-#[derive(Drop)]
-pub enum TidyAnswer {
-    Tidied {
-        bytes: u64,
-        comments: u64,
-        repeated: u64,
-        turned: u64,
-    },
-    Refused {
-        why: Refusal,
-        line: u64,
-    },
-}
-
-// How many bytes are written of a text of so many, into an output with so much room: all or none.
-fn whole(used: usize, room: usize) -> usize
-    ensures { (result ≡ pick (ltb room used) 0 used) × (result ≤ used) × (result ≤ room) }
-{
-    if room < used {
-        return 0;
-    }
-    used
+// The bytes written and what the text had: comments, repeated edges, and lines with the larger vertex first.
+#[derive(Clone, Copy, PartialEq, Eq)]
+pub struct Tidied {
+    pub bytes: u64,
+    pub comments: u64,
+    pub repeated: u64,
+    pub turned: u64,
 }
 
 // A text that was read to a graph of v vertices and e edges, written back.
-fn write_back(text: &[u8], out: &mut [u8], v: u64, e: u64, seen: &[u8; 441]) -> TidyAnswer
+fn write_back(
+    text: &[u8],
+    out: &mut [u8],
+    v: u64,
+    e: u64,
+    seen: &[u8; 441],
+) -> Result<Tidied, Fault>
     requires { (length text.now ≤ text_most) × Reads text.now v e seen.now }
     ensures { Answers text.now (tidied text.now (length out.old)) out.old out.new result }
 {
     let mut page = [0u8; PAGE];
     let used = put_tidy(&mut page, v, e, seen);
-    let part = whole(used, out.len());
-    put(out, 0, &page[..part]);
-    if part < used {
-        return TidyAnswer::Refused {
+    if out.len() < used {
+        return Err(Fault {
             why: Refusal::Room,
             line: 0,
-        };
+        });
     }
+    put(out, 0, &page[..used]);
     let t = count_lines(text);
-    let repeated = t.edges - e;
-    TidyAnswer::Tidied {
+    Ok(Tidied {
         bytes: used as u64,
         comments: t.comments,
-        repeated,
+        repeated: t.edges - e,
         turned: t.turned,
-    }
+    })
 }
 
 // Writes a graph file back tidied, to the front of the output lent. A refusal writes nothing.
-pub fn tidy(text: &[u8], out: &mut [u8]) -> TidyAnswer
+pub fn tidy(text: &[u8], out: &mut [u8]) -> Result<Tidied, Fault>
     ensures { Answers text.now (tidied text.now (length out.old)) out.old out.new result }
 {
     if text.len() > TEXT_MOST {
-        return TidyAnswer::Refused {
+        return Err(Fault {
             why: Refusal::Long,
             line: 0,
-        };
+        });
     }
-    let s = read_lines(text);
-    let verdict = s.verdict;
-    let line = s.line;
-    let graph = s.graph;
-    let seen = s.seen;
-    match verdict {
-        Verdict::Refused(why) => TidyAnswer::Refused { why, line },
-        Verdict::Done => write_back(text, out, graph.vertices, graph.count, &seen),
-    }
+    let s = read_lines(text)?;
+    write_back(text, out, s.graph.vertices, s.graph.count, &s.seen)
 }

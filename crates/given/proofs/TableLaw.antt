@@ -1,4 +1,5 @@
 -- What a checked table is, and what is asked after it.
+use Rattle.std.specs.Prelude.{Err}
 use mathlib.Core.Path.{◌≡◌, sym, ap, ◌∙◌}
 use mathlib.Core.Bool.{not}
 use mathlib.Core.List.{List}
@@ -10,8 +11,7 @@ use lib.ListN.{length}
 use borrow.Author.Tests.{eq-eqb, le-ltb}
 use Rattle.refusals.specs.declared.Refusal.{Refusal}
 use Rattle.refusals.specs.declared.Refusal.TheVariants.{Length, Pair}
-use Rattle.refusals.specs.declared.Verdict.{Verdict}
-use Rattle.refusals.specs.declared.Verdict.TheVariants.{Done, Refused}
+use Rattle.refusals.specs.Refusal.{Verdict, done}
 use Rattle.refusals.specs.Limits.{Within}
 use Rattle.refusals.proofs.RefusalLaw.{refuse_none, sized_within, sized_next, sized_done}
 use Rattle.tables.specs.Monomials.{count_of}
@@ -35,18 +35,18 @@ module _ (g : Given) where
   pub checked_next : (v : Verdict) → Checked g → table_verdict g v ≡ v
   checked_next v ok = entries_passed N g.n g.m g.words v ok
 
-  pub refused_first : (f : Refusal) (v : Verdict) → table_verdict g Done ≡ Refused f → table_verdict g v ≡ Refused f
+  pub refused_first : (f : Refusal) (v : Verdict) → table_verdict g done ≡ Err f → table_verdict g v ≡ Err f
   refused_first f v e = entries_refused N g.n g.m g.words f v e
 
   -- what nothing refuses: the table is checked, and nothing that was asked next refused it
-  pub done_first : (v : Verdict) → table_verdict g v ≡ Done → Checked g
+  pub done_first : (v : Verdict) → table_verdict g v ≡ done → Checked g
   done_first v e =
       let p = paired_of N g.m g.words v in
       let a = long_done N g.words p (sized_done g.n g.m (long_of N g.words p) e) in
       (entries_accepted N g.n g.m g.words).1
       (record { sizes = sized_within g.n g.m (long_of N g.words p) e; table = (paired_done N g.m g.words v a.0 a.1).0 })
 
-  pub done_next : (v : Verdict) → table_verdict g v ≡ Done → v ≡ Done
+  pub done_next : (v : Verdict) → table_verdict g v ≡ done → v ≡ done
   done_next v e = sym (checked_next v (done_first v e)) ∙ e
 
   -- its sizes are within the limits, its length is exact and every pair is legal
@@ -74,10 +74,10 @@ pub checked_of_lem : (n m : ℕ) (t : List ℕ) → Within n m → Table n m t �
 checked_of_lem n m t w a = checked_if (quadratic n m t) w a
 
 -- a copy of a legal table into room of its size is not refused
-pub copy_into : (n m : ℕ) (from to : List ℕ) → Within n m → Table n m from → length to ≡ 2 * count_of n → copy_verdict n m from to ≡ Done
+pub copy_into : (n m : ℕ) (from to : List ℕ) → Within n m → Table n m from → length to ≡ 2 * count_of n → copy_verdict n m from to ≡ done
 copy_into n m from to w h room =
     let f : legal_front m from ≡ count_of n = (front_whole m (count_of n) from h.size).1 h.legal in
-    sized_next n m (long n from (long n to (paired n m from Done))) w
-    ∙ refuse_none (not (eqb (length from) (2 * count_of n))) Length (long n to (paired n m from Done)) (ap not (eq-eqb _ _ h.size))
-    ∙ refuse_none (not (eqb (length to) (2 * count_of n))) Length (paired n m from Done) (ap not (eq-eqb _ _ room))
-    ∙ refuse_none (ltb (legal_front m from) (count_of n)) (Pair (legal_front m from)) Done (le-ltb (legal_front m from) (count_of n) (omega (arith, f)))
+    sized_next n m (long n from (long n to (paired n m from done))) w
+    ∙ refuse_none (not (eqb (length from) (2 * count_of n))) Length (long n to (paired n m from done)) (ap not (eq-eqb _ _ h.size))
+    ∙ refuse_none (not (eqb (length to) (2 * count_of n))) Length (paired n m from done) (ap not (eq-eqb _ _ room))
+    ∙ refuse_none (ltb (legal_front m from) (count_of n)) (Pair (legal_front m from)) done (le-ltb (legal_front m from) (count_of n) (omega (arith, f)))

@@ -1,7 +1,6 @@
 -- A table of differences with what is told beside it: the system that it comes from, and what it is refused for.
 use Rattle.std.specs.Prelude.{◌≡◌, ◌&&◌, List, ℕ, ◌*◌, ltb, leb, eqb, length}
-use Rattle.refusals.specs.declared.Verdict.{Verdict}
-use Rattle.refusals.specs.declared.Verdict.TheVariants.{Done}
+use Rattle.refusals.specs.Refusal.{Verdict, done}
 use Rattle.refusals.specs.Choice.{pick}
 use Rattle.refusals.specs.Limits.{most_unknowns}
 use Rattle.polynomials.specs.Poly.{Poly, value_of, back_of}
@@ -70,4 +69,4 @@ table_verdict g v = checked_then (count_in g.degree g.n) g.n g.m g.words v
 
 -- it is refused for nothing
 abbrev pub Checked : Given → Type 0
-Checked g = table_verdict g Done ≡ Done
+Checked g = table_verdict g done ≡ done

@@ -3,26 +3,26 @@
 #![tactic(auto)]
 
 ghost use Rattle.std.specs.Prelude.{◌≡◌};
-ghost use Rattle.refusals.specs.declared.Verdict.TheVariants.{Done};
-ghost use Rattle.refusals.specs.Refusal.{code_of};
+ghost use Rattle.refusals.specs.Refusal.{code_of, done};
 ghost use Rattle.given.specs.Given.{table_with, table_verdict, degree_told};
 
-use refusals::{MOST_UNKNOWNS, Verdict};
+use checks::Quadratic;
+use refusals::{MOST_UNKNOWNS, Refusal};
 
 // The degree of the system behind a table, told like its sizes.
-#[derive(Clone, Copy)]
+#[derive(Clone, Copy, PartialEq, Eq)]
 pub enum Degree {
     Two,
     Three,
 }
 
 // A table by itself: its sizes, its length, its pairs.
-pub fn check(degree: Degree, n: u64, m: u64, table: &[u64]) -> Verdict
-    ensures answer { result ≡ table_verdict (table_with degree n m table.now) Done }
-    ensures number { code_of result ≡ code_of (table_verdict (table_with degree n m table.now) Done) }
+pub fn check(degree: Degree, n: u64, m: u64, table: &[u64]) -> Result<(), Refusal>
+    ensures answer { result ≡ table_verdict (table_with degree n m table.now) done }
+    ensures number { code_of result ≡ code_of (table_verdict (table_with degree n m table.now) done) }
 {
     match degree {
-        Degree::Two => checks::check(n, m, table),
+        Degree::Two => checks::check::<Quadratic>(n, m, table),
         Degree::Three => cubic_checks::check(n, m, table),
     }
 }

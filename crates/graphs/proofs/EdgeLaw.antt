@@ -1,4 +1,5 @@
 -- Sets of edges: one more edge, an edge taken once, and the flags of those that were seen.
+use Rattle.std.specs.Prelude.{Err}
 use mathlib.Core.Path.{◌≡◌, refl, sym, ap, ap₂, ◌∙◌}
 use mathlib.Core.Bool.{Bool, true, false, not, ◌&&◌, ◌||◌}
 use mathlib.Core.List.{List, [], ◌∷◌, ◌++◌}
@@ -11,8 +12,8 @@ use lib.ListN.{length, get_or, set, replicate, length-set, length-replicate, get
 use lib.Seq.{get_or-set_same, get_or-set_other}
 use borrow.Author.Tests.{eq-eqb, ne_eqb, le-leb, lt-leb, leb-false}
 use Rattle.refusals.specs.declared.Refusal.TheVariants as why
-use Rattle.refusals.specs.declared.Verdict.TheVariants.{Done, Refused}
 use Rattle.refusals.proofs.RefusalLaw.{done_test}
+use Rattle.refusals.specs.Refusal.{done}
 use Rattle.graphs.specs.Edges.{Ends, meets, has_edge, added, take_once, once_from}
 use Rattle.graphs.specs.Reading.{vertices_most, edges_most, full_fault}
 use Rattle.graphs.specs.Drawn.{no_ends}
@@ -110,17 +111,17 @@ unfolding take_once
 once_new es a b h = ap (λ (q : Bool). added q es (edge a b)) h
 
 -- ---- the 65th
-pub full_again : (es : List Ends) (a b : ℕ) → has_edge es a b ≡ true → full_fault es a b ≡ Done
+pub full_again : (es : List Ends) (a b : ℕ) → has_edge es a b ≡ true → full_fault es a b ≡ done
 full_again es a b h = rw h
 
-pub full_room : (es : List Ends) (a b : ℕ) → length es < edges_most → full_fault es a b ≡ Done
+pub full_room : (es : List Ends) (a b : ℕ) → length es < edges_most → full_fault es a b ≡ done
 full_room es a b h = rw (lt-leb edges_most (length es) h, and_none (not (has_edge es a b)))
 
-pub full_refused : (es : List Ends) (a b : ℕ) → has_edge es a b ≡ false → edges_most ≤ length es → full_fault es a b ≡ Refused why.Edges
+pub full_refused : (es : List Ends) (a b : ℕ) → has_edge es a b ≡ false → edges_most ≤ length es → full_fault es a b ≡ Err why.Edges
 full_refused es a b h l = rw (h, le-leb edges_most (length es) l)
 
-pub full_fine : (es : List Ends) (a b : ℕ) → has_edge es a b ≡ false → full_fault es a b ≡ Done → length es < edges_most
-full_fine es a b h z = leb-false edges_most (length es) (done_test (leb edges_most (length es)) why.Edges Done (rw h at z))
+pub full_fine : (es : List Ends) (a b : ℕ) → has_edge es a b ≡ false → full_fault es a b ≡ done → length es < edges_most
+full_fine es a b h z = leb-false edges_most (length es) (done_test (leb edges_most (length es)) why.Edges done (rw h at z))
 
 -- ---- flags
 pub seen_none : Seen [] (replicate cells 0)

@@ -1,10 +1,9 @@
 -- The structs that hold a graph while it is read step as the states do.
 use mathlib.Core.Path.{◌≡◌, refl, sym, ap, ap₂, ◌∙◌}
-use mathlib.Core.Bool.{Bool, true, false}
 use mathlib.Core.List.{List, [], ◌∷◌, ◌++◌}
 use mathlib.Core.Logic.{by_cases}
 use Prim.Native.Nat.{ℕ, zero, suc, ◌+◌, ◌≤◌, ◌<◌}
-use native.Mathlib.Decide.{ℕ_discrete}
+use native.Mathlib.Decide.{dec_lt, ℕ_discrete}
 use native.Mathlib.Numerals.{add-one}
 use native.Mathlib.Omega.{arith}
 use lib.Dec.{eqb, ltb, leb}
@@ -13,16 +12,15 @@ use lib.Seq.{get_or-set_same, get_or-set_other, get_or_at}
 use borrow.Author.Tests.{lt-ltb, le-ltb, ltb-false, leb-false, eqb-false}
 use Rattle.refusals.specs.declared.Refusal.{Refusal}
 use Rattle.refusals.specs.declared.Refusal.TheVariants as why
-use Rattle.refusals.specs.declared.Verdict.{Verdict}
-use Rattle.refusals.specs.declared.Verdict.TheVariants.{Done, Refused}
+use Rattle.refusals.specs.Refusal.{Verdict, done}
 use Rattle.refusals.proofs.RefusalLaw.{done_test, done_next}
 use Rattle.shapes.specs.declared.Shape.TheVariants.{Comment, Problem, Edge, Unknown}
 use Rattle.shapes.specs.Shapes.{shape_of}
 use Rattle.lines.specs.Lines.{lines_of}
-use Rattle.graphs.specs.Reading.{text_most, vertices_most, lines_most, words_least, State, start, declared, Turn, on, stop, problem_fault, edge_fault, full_fault, or_else, carry, take_line, graph, refused, end_of, read_lines, outcome_of}
+use Rattle.graphs.specs.Reading.{text_most, vertices_most, lines_most, words_least, State, start, declared, on, stop, problem_fault, edge_fault, full_fault, or_else, carry, take_line, graph, refused, end_of, read_lines, outcome_of}
 use Rattle.graphs.specs.Edges.{Ends, take_once}
 use Rattle.graphs.specs.Drawn.{no_ends}
-use Rattle.graphs.specs.Scans.{ends_of, state_in, found_of, is_refused}
+use Rattle.graphs.specs.Scans.{ends_of}
 
 -- ---- reading on
 pub read_none : (k : ℕ) (s : State) → read_lines k s [] ≡ end_of s
@@ -59,7 +57,7 @@ ends_joined k xs ys a b h l =
     (ap₂ (λ (x y : ℕ). record { one = x; other = y } ∷ []) (get_or-set_same xs k a 0 h) (get_or-set_same ys k b 0 l))
 
 -- ---- one line
-problem_again : (v e k : ℕ) (es : List Ends) (v' e' : ℕ) → take_line (declared v e k es) (Problem v' e') ≡ stop why.Order
+pub problem_again : (v e k : ℕ) (es : List Ends) (v' e' : ℕ) → take_line (declared v e k es) (Problem v' e') ≡ stop why.Order
 unfolding take_line
 problem_again v e k es v' e' = refl
 
@@ -67,7 +65,7 @@ problem_first : (v e : ℕ) → take_line start (Problem v e) ≡ carry (problem
 unfolding take_line
 problem_first v e = refl
 
-edge_early : (a b : ℕ) → take_line start (Edge a b) ≡ stop why.Order
+pub edge_early : (a b : ℕ) → take_line start (Edge a b) ≡ stop why.Order
 unfolding take_line
 edge_early a b = refl
 
@@ -83,40 +81,33 @@ pub take_unknown : (s : State) → take_line s Unknown ≡ stop why.Shape
 unfolding take_line
 take_unknown s = refl
 
-module _ {q : Bool} (v e k : ℕ) (es : List Ends) where
-  pub second_problem : q ≡ true → (v' e' : ℕ) → stop why.Order ≡ take_line (state_in q v e k es) (Problem v' e')
-  second_problem h v' e' = rw h (sym (problem_again v e k es v' e'))
+-- a p line that is the first, and an e line after it
+pub first_problem : {f : Verdict} (v e : ℕ) → problem_fault v e ≡ f → carry f (declared v e 0 []) ≡ take_line start (Problem v e)
+first_problem v e w = sym (problem_first v e ∙ ap (λ (g : Verdict). carry g (declared v e 0 [])) w)
 
-  pub first_problem : q ≡ false → {f : Verdict} (v' e' : ℕ) → problem_fault v' e' ≡ f → carry f (declared v' e' 0 []) ≡ take_line (state_in q v e k es) (Problem v' e')
-  first_problem h v' e' w = rw h (sym (problem_first v' e' ∙ ap (λ (g : Verdict). carry g (declared v' e' 0 [])) w))
-
-  pub early_edge : q ≡ false → (a b : ℕ) → stop why.Order ≡ take_line (state_in q v e k es) (Edge a b)
-  early_edge h a b = rw h (sym (edge_early a b))
-
-  pub later_edge : q ≡ true → {f : Verdict} (a b : ℕ) → edge_fault v e k a b ≡ f
-      → carry (or_else f (full_fault es a b)) (declared v e (k + 1) (take_once es a b)) ≡ take_line (state_in q v e k es) (Edge a b)
-  later_edge h a b w =
-      rw h (sym (edge_next v e k es a b ∙ ap (λ (g : Verdict). carry (or_else g (full_fault es a b)) (declared v e (k + 1) (take_once es a b))) w))
+module _ (v e k : ℕ) (es : List Ends) where
+  pub later_edge : {f : Verdict} (a b : ℕ) → edge_fault v e k a b ≡ f
+      → carry (or_else f (full_fault es a b)) (declared v e (k + 1) (take_once es a b)) ≡ take_line (declared v e k es) (Edge a b)
+  later_edge a b w =
+      sym (edge_next v e k es a b ∙ ap (λ (g : Verdict). carry (or_else g (full_fault es a b)) (declared v e (k + 1) (take_once es a b))) w)
 
   -- the end
-  pub end_early : q ≡ false → refused why.Order 0 ≡ end_of (state_in q v e k es)
+  pub end_other : (k ≡ e → ⊥) → refused why.Count 0 ≡ end_of (declared v e k es)
   unfolding end_of
-  end_early h = rw h
+  end_other d =
+      by_cases (dec_lt k e) (λ l. rw (lt-ltb k e l))
+      (λ l. let j : e ≤ k = omega arith in let i : e < k = omega arith in rw (le-ltb k e j, lt-ltb e k i))
 
-  pub end_few : q ≡ true → k < e → refused why.Count 0 ≡ end_of (state_in q v e k es)
+  pub end_same : k ≡ e → graph v es ≡ end_of (declared v e k es)
   unfolding end_of
-  end_few h l = rw (h, lt-ltb k e l)
-
-  pub end_many : q ≡ true → e < k → refused why.Count 0 ≡ end_of (state_in q v e k es)
-  unfolding end_of
-  end_many h l = let j : e ≤ k = omega arith in rw (h, le-ltb k e j, lt-ltb e k l)
-
-  pub end_same : q ≡ true → k ≡ e → graph v es ≡ end_of (state_in q v e k es)
-  unfolding end_of
-  end_same h l =
+  end_same l =
       let j : e ≤ k = omega arith in
       let i : k ≤ e = omega arith in
-      rw (h, le-ltb k e j, le-ltb e k i)
+      rw (le-ltb k e j, le-ltb e k i)
+
+pub end_early : refused why.Order 0 ≡ end_of start
+unfolding end_of
+end_early = refl
 
 -- ---- what is not refused
 pub record Declares (v e : ℕ) : Type 0 where
@@ -125,7 +116,7 @@ pub record Declares (v e : ℕ) : Type 0 where
   pub e_least : 1 ≤ e
   pub e_most : e ≤ lines_most
 
-pub problem_fine : (v e : ℕ) → problem_fault v e ≡ Done → Declares v e
+pub problem_fine : (v e : ℕ) → problem_fault v e ≡ done → Declares v e
 problem_fine v e h =
     let h2 = done_next (ltb v 1) _ _ h in
     let h3 = done_next (ltb vertices_most v) _ _ h2 in
@@ -145,7 +136,7 @@ pub record Fitting (v e k a b : ℕ) : Type 0 where
   pub other_most : b ≤ v
   pub apart : a ≡ b → ⊥
 
-pub edge_fine : (v e k a b : ℕ) → edge_fault v e k a b ≡ Done → Fitting v e k a b
+pub edge_fine : (v e k a b : ℕ) → edge_fault v e k a b ≡ done → Fitting v e k a b
 edge_fine v e k a b h =
     let h2 = done_next (leb e k) _ _ h in
     let h3 = done_next (ltb a 1) _ _ h2 in
@@ -161,22 +152,9 @@ edge_fine v e k a b h =
       apart = eqb-false _ _ (done_test (eqb a b) _ _ h6);
     }
 
--- a verdict that refuses nothing, and one that does
-pub done_is : (f : Verdict) → is_refused f ≡ false → f ≡ Done
-done_is Done e = refl
-done_is (Refused r) e = let z : ◌≡◌ {A = ℕ} 0 1 = cc in absurd (omega arith)
-
-pub refused_is : (f : Verdict) → is_refused f ≡ true → (s : State) (k : ℕ) (v : ℕ) (es : List Ends) (t : Turn) → carry f s ≡ t
-    → (u : State) (l : List ℕ) (ls : List (List ℕ)) → t ≡ take_line u (shape_of l) → found_of f k v es ≡ read_lines k u (l ∷ ls)
-refused_is Done e s k v es t p u l ls q = let z : ◌≡◌ {A = ℕ} 0 1 = cc in absurd (omega arith)
-refused_is (Refused r) e s k v es t p u l ls q = sym (read_stop k u r l ls (sym (p ∙ q)))
-
 -- ---- the states of the reader's own graphs
-pub state_start : {q : Bool} (v e k : ℕ) (es : List Ends) → q ≡ false → state_in q v e k es ≡ start
-state_start v e k es h = rw h
-
-pub state_is : {q : Bool} {v v' e e' k k' : ℕ} {es es' : List Ends} → q ≡ true → v ≡ v' → e ≡ e' → k ≡ k' → es ≡ es' → state_in q v e k es ≡ declared v' e' k' es'
-state_is h p r t s = rw (h, p, r, t, s)
+pub state_is : {v v' e e' k k' : ℕ} {es es' : List Ends} → v ≡ v' → e ≡ e' → k ≡ k' → es ≡ es' → declared v e k es ≡ declared v' e' k' es'
+state_is p r t s = rw (p, r, t, s)
 
 pub ends_none : (k : ℕ) (xs ys : List ℕ) → k ≡ 0 → ends_of k xs ys ≡ []
 unfolding ends_of
@@ -185,16 +163,6 @@ ends_none k xs ys h = rw h
 pub ends_next : (k a b : ℕ) (xs ys : List ℕ) {k' : ℕ} {xs' ys' : List ℕ} → k' ≡ k + 1 → xs' ≡ set xs k a → ys' ≡ set ys k b → k < length xs → k < length ys
     → ends_of k' xs' ys' ≡ ends_of k xs ys ++ (record { one = a; other = b } ∷ [])
 ends_next k a b xs ys h p q l m = rw (h, p, q) (ends_joined k xs ys a b l m)
-
--- a line that is taken
-pub read_on : (f : Verdict) (s u : State) (k : ℕ) (l : List ℕ) (ls : List (List ℕ)) → is_refused f ≡ false → carry f s ≡ take_line u (shape_of l)
-    → read_lines (k + 1) s ls ≡ read_lines k u (l ∷ ls)
-read_on f s u k l ls e p = sym (read_go k u s l ls (sym p ∙ ap (λ (g : Verdict). carry g s) (done_is f e)))
-
--- a line that is refused
-pub read_refused : (f : Verdict) (s u : State) (k v : ℕ) (es : List Ends) (l : List ℕ) (ls : List (List ℕ)) → is_refused f ≡ true → carry f s ≡ take_line u (shape_of l)
-    → found_of f k v es ≡ read_lines k u (l ∷ ls)
-read_refused f s u k v es l ls e p = refused_is f e s k v es (take_line u (shape_of l)) p u l ls refl
 
 -- edge e of the two arrays
 pub ends_at : (k : ℕ) (xs ys : List ℕ) (e : ℕ) → e < k → get_or (ends_of k xs ys) e no_ends ≡ record { one = get_or xs e 0; other = get_or ys e 0 }

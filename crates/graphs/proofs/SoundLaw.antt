@@ -1,5 +1,6 @@
 -- What is read lies within the limits: each line that is taken keeps the state so.
-use mathlib.Core.Path.{◌≡◌, refl, sym, ap, ◌∙◌}
+use Rattle.std.specs.Prelude.{Ok, Err}
+use mathlib.Core.Path.{◌≡◌, refl, sym, ◌∙◌}
 use mathlib.Core.Bool.{Bool, true, false}
 use mathlib.Core.List.{List, [], ◌∷◌, ◌++◌}
 use mathlib.Core.Logic.{by_cases}
@@ -12,8 +13,7 @@ use lib.Seq.{get_or_at}
 use borrow.Author.Tests.{ltb-false}
 use Rattle.refusals.specs.declared.Refusal.{Refusal}
 use Rattle.refusals.specs.declared.Refusal.TheVariants as why
-use Rattle.refusals.specs.declared.Verdict.{Verdict}
-use Rattle.refusals.specs.declared.Verdict.TheVariants.{Done, Refused}
+use Rattle.refusals.specs.Refusal.{Verdict, done}
 use Rattle.shapes.specs.declared.Shape.{Shape}
 use Rattle.shapes.specs.declared.Shape.TheVariants.{Comment, Problem, Edge, Unknown}
 use Rattle.lines.specs.Lines.{lines_of}
@@ -21,7 +21,7 @@ use Rattle.shapes.specs.Shapes.{shape_of}
 use Rattle.graphs.specs.Reading.{text_most, edges_most, words_least, State, start, declared, Turn, on, stop, problem_fault, edge_fault, full_fault, or_else, carry, take_line, Outcome, graph, refused, refuse_at, end_of, read_lines, outcome_of}
 use Rattle.graphs.specs.Edges.{Ends, has_edge, take_once}
 use Rattle.graphs.specs.Drawn.{no_ends, Edged, Drawn}
-use Rattle.graphs.specs.Scans.{ends_of, found_of}
+use Rattle.graphs.specs.Scans.{ends_of}
 use Rattle.lines.proofs.SplitLaw.{lines_few}
 use Rattle.graphs.proofs.EdgeLaw.{Among, has_among, once_again, once_new, full_fine}
 use Rattle.graphs.proofs.ReadLaw.{Declares, problem_fine, Fitting, edge_fine, read_none, read_go, read_stop, length_ends, ends_at}
@@ -43,23 +43,23 @@ stop_on r s e = let z : ◌≡◌ {A = ℕ} 0 1 = cc in omega arith
 pub on_is : (s u : State) → on s ≡ on u → s ≡ u
 on_is s u e = cc
 
-carry_done : (f : Verdict) (s u : State) → carry f s ≡ on u → f ≡ Done
-carry_done Done s u e = refl
-carry_done (Refused r) s u e = absurd (stop_on r u e)
+carry_done : (f : Verdict) (s u : State) → carry f s ≡ on u → f ≡ done
+carry_done (Ok _) s u e = refl
+carry_done (Err r) s u e = absurd (stop_on r u e)
 
 pub carry_on : (f : Verdict) (s u : State) → carry f s ≡ on u → s ≡ u
-carry_on Done s u e = on_is s u e
-carry_on (Refused r) s u e = absurd (stop_on r u e)
+carry_on (Ok _) s u e = on_is s u e
+carry_on (Err r) s u e = absurd (stop_on r u e)
 
-first_done : (v w : Verdict) → or_else v w ≡ Done → v ≡ Done
-first_done Done w e = refl
-first_done (Refused r) w e = absurd (let z : ◌≡◌ {A = ℕ} 0 1 = cc in omega arith)
+first_done : (v w : Verdict) → or_else v w ≡ done → v ≡ done
+first_done (Ok _) w e = refl
+first_done (Err r) w e = absurd (let z : ◌≡◌ {A = ℕ} 0 1 = cc in omega arith)
 
-next_done : (v w : Verdict) → or_else v w ≡ Done → w ≡ Done
-next_done Done w e = e
-next_done (Refused r) w e = absurd (let z : ◌≡◌ {A = ℕ} 0 1 = cc in omega arith)
+next_done : (v w : Verdict) → or_else v w ≡ done → w ≡ done
+next_done (Ok _) w e = e
+next_done (Err r) w e = absurd (let z : ◌≡◌ {A = ℕ} 0 1 = cc in omega arith)
 
-sound_problem : (v e : ℕ) → problem_fault v e ≡ Done → Sound (declared v e 0 [])
+sound_problem : (v e : ℕ) → problem_fault v e ≡ done → Sound (declared v e 0 [])
 sound_problem v e h = record { limits = problem_fine v e h; some = λ l. absurd (omega arith); few = omega arith; each = λ i l. absurd (omega arith) }
 
 module _ (v e k : ℕ) (es : List Ends) (a b : ℕ) (g : Good v e k es) (f : Fitting v e k a b) where
@@ -88,7 +88,7 @@ module _ (v e k : ℕ) (es : List Ends) (a b : ℕ) (g : Good v e k es) (f : Fit
           let m : i < length es = omega (arith, length-append es (record { one = a; other = b } ∷ [])) in
           rw (get_or-append es (record { one = a; other = b } ∷ []) no_ends i m) (g.each i m))
 
-  sound_once : full_fault es a b ≡ Done → Good v e (k + 1) (take_once es a b)
+  sound_once : full_fault es a b ≡ done → Good v e (k + 1) (take_once es a b)
   sound_once z = by_test (has_edge es a b) refl
     where
       by_test : (q : Bool) → has_edge es a b ≡ q → Good v e (k + 1) (take_once es a b)
@@ -164,9 +164,6 @@ text_drawn t w v es e =
     (refuse_graph (ltb w words_least) why.Length 0 _ v es (refuse_graph (ltb text_most (length t)) why.Long 0 _ v es e))
 
 -- ---- the graph that was read
-pub found_drawn : (t : List ℕ) (f : Verdict) (k v : ℕ) (es : List Ends) → found_of f k v es ≡ read_lines 1 start (lines_of t) → f ≡ Done → Drawn v es
-found_drawn t f k v es e q = lines_drawn t v es (sym e ∙ ap (λ (g : Verdict). found_of g k v es) q)
-
 module _ (v k : ℕ) (xs ys : List ℕ) (d : Drawn v (ends_of k xs ys)) where
   pub ends_few : k ≤ edges_most
   ends_few = omega (arith, d.few, length_ends k xs ys)

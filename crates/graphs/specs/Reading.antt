@@ -1,10 +1,8 @@
 -- What a text means: its lines, read in order; the refusals of each line and at the end, in document 01's order.
-use Rattle.std.specs.Prelude.{Bool, true, false, not, ◌&&◌, List, [], ◌∷◌, ℕ, suc, ◌+◌, ◌*◌, eqb, ltb, leb, length}
+use Rattle.std.specs.Prelude.{Bool, true, false, not, ◌&&◌, List, [], ◌∷◌, ℕ, suc, ◌+◌, ◌*◌, eqb, ltb, leb, length, Ok, Err}
 use Rattle.refusals.specs.declared.Refusal.{Refusal}
 use Rattle.refusals.specs.declared.Refusal.TheVariants as why
-use Rattle.refusals.specs.declared.Verdict.{Verdict}
-use Rattle.refusals.specs.declared.Verdict.TheVariants.{Done, Refused}
-use Rattle.refusals.specs.Refusal.{number_of, refuse}
+use Rattle.refusals.specs.Refusal.{Verdict, number_of, refuse, done}
 use Rattle.lines.specs.Lines.{lines_of}
 use Rattle.shapes.specs.declared.Shape.{Shape}
 use Rattle.shapes.specs.declared.Shape.TheVariants.{Comment, Problem, Edge, Unknown}
@@ -40,27 +38,27 @@ pub data Turn : Type 0 where
 -- a p line with these numbers: 12 for vertices not 1 to 20, or edges not 1 to 4,096
 abbrev pub problem_fault : ℕ → ℕ → Verdict
 problem_fault v e =
-    refuse (ltb v 1) why.Limits (refuse (ltb vertices_most v) why.Limits (refuse (ltb e 1) why.Limits (refuse (ltb lines_most e) why.Limits Done)))
+    refuse (ltb v 1) why.Limits (refuse (ltb vertices_most v) why.Limits (refuse (ltb e 1) why.Limits (refuse (ltb lines_most e) why.Limits done)))
 
 -- an e line after a p line with v and e, and after k e lines: 14 for one too many, then 13 for its vertices
 abbrev pub edge_fault : ℕ → ℕ → ℕ → ℕ → ℕ → Verdict
 edge_fault v e k a b =
     refuse (leb e k) why.Count
     (refuse (ltb a 1) why.Vertex
-    (refuse (ltb v a) why.Vertex (refuse (ltb b 1) why.Vertex (refuse (ltb v b) why.Vertex (refuse (eqb a b) why.Vertex Done)))))
+    (refuse (ltb v a) why.Vertex (refuse (ltb b 1) why.Vertex (refuse (ltb v b) why.Vertex (refuse (eqb a b) why.Vertex done)))))
 
 -- then 16 for an edge that is new after 64 different ones
 abbrev pub full_fault : List Ends → ℕ → ℕ → Verdict
-full_fault es a b = refuse (not (has_edge es a b) && leb edges_most (length es)) why.Edges Done
+full_fault es a b = refuse (not (has_edge es a b) && leb edges_most (length es)) why.Edges done
 
 -- what was refused first, else what is asked next
 abbrev pub or_else : Verdict → Verdict → Verdict
-or_else Done v = v
-or_else (Refused r) v = Refused r
+or_else (Ok _) v = v
+or_else (Err r) v = Err r
 
 abbrev pub carry : Verdict → State → Turn
-carry Done s = on s
-carry (Refused r) s = stop r
+carry (Ok _) s = on s
+carry (Err r) s = stop r
 
 -- a line of the given shape
 unfoldable pub take_line : State → Shape → Turn

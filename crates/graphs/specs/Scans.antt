@@ -1,11 +1,11 @@
 -- What the structs that hold a graph while it is read stand for.
-use Rattle.std.specs.Prelude.{◌≡◌, Bool, true, false, List, [], ◌∷◌, ◌++◌, ℕ, zero, suc, ◌+◌, ◌*◌, ◌≤◌, ◌<◌, length, get_or}
-use Rattle.refusals.specs.declared.Verdict.{Verdict}
-use Rattle.refusals.specs.declared.Verdict.TheVariants.{Done, Refused}
+use Rattle.std.specs.Prelude.{◌≡◌, Bool, true, false, List, [], ◌∷◌, ◌++◌, ℕ, zero, suc, ◌+◌, ◌*◌, ◌≤◌, ◌<◌, length, get_or, Option, Some, None, Result, Ok, Err}
+use Rattle.refusals.specs.declared.Refusal.{Refusal}
+use Rattle.graphs.specs.declared.Fault.{Fault}
 use Rattle.graphs.specs.declared.Graph.{Graph}
 use Rattle.graphs.specs.declared.Scan.{Scan}
 use Rattle.graphs.specs.Edges.{Ends, has_edge, take_once}
-use Rattle.graphs.specs.Reading.{vertices_most, lines_most, edges_most, State, start, declared, Outcome, graph, refused}
+use Rattle.graphs.specs.Reading.{vertices_most, lines_most, edges_most, State, start, declared, Turn, on, stop, Outcome, graph, refused}
 
 -- the k edges of two arrays
 unfoldable pub ends_of : ℕ → List ℕ → List ℕ → List Ends
@@ -15,23 +15,29 @@ ends_of (suc k) xs ys = ends_of k xs ys ++ (record { one = get_or xs k 0; other 
 abbrev pub edges_of : Graph → List Ends
 edges_of g = ends_of g.count g.one g.other
 
-abbrev pub state_in : Bool → ℕ → ℕ → ℕ → List Ends → State
-state_in false v e k es = start
-state_in true v e k es = declared v e k es
+abbrev pub state_of : Option Graph → State
+state_of None = start
+state_of (Some g) = declared g.vertices g.edges g.lines (edges_of g)
 
-abbrev pub state_of : Graph → State
-state_of g = state_in g.known g.vertices g.edges g.lines (edges_of g)
+-- what the end of a text gives
+abbrev pub ended : Result Graph Refusal → Outcome
+ended (Ok g) = graph g.vertices (edges_of g)
+ended (Err r) = refused r 0
 
-abbrev pub found_of : Verdict → ℕ → ℕ → List Ends → Outcome
-found_of Done k v es = graph v es
-found_of (Refused r) k v es = refused r k
+-- what a line gives: no graph yet, or one
+abbrev pub turned : Result (Option Graph) Refusal → Turn
+turned (Ok g) = on (state_of g)
+turned (Err r) = stop r
 
-abbrev pub is_refused : Verdict → Bool
-is_refused Done = false
-is_refused (Refused r) = true
+-- what a p line or an e line gives
+abbrev pub taken : Result Graph Refusal → Turn
+taken (Ok g) = on (state_of (Some g))
+taken (Err r) = stop r
 
-abbrev pub scan_of : Scan → Outcome
-scan_of s = found_of s.verdict s.line s.graph.vertices (edges_of s.graph)
+-- what a whole text gives
+abbrev pub scan_of : Result Scan Fault → Outcome
+scan_of (Ok s) = graph s.graph.vertices (edges_of s.graph)
+scan_of (Err f) = refused f.why f.line
 
 -- ---- edges that were seen
 -- the flag of an edge between a and b, in a square of 21 times 21: vertices are counted from 1
@@ -53,14 +59,17 @@ pub record Seen (es : List Ends) (s : List ℕ) : Type 0 where
 -- a graph between two lines, and the flags of its edges
 pub record Kept (g : Graph) (s : List ℕ) : Type 0 where
   pub seen : Seen (edges_of g) s
-  pub none : g.known ≡ false → g.count ≡ 0
   pub vertices : g.vertices ≤ vertices_most
   pub promised : g.edges ≤ lines_most
   pub few : g.count ≤ edges_most
 
--- an e line that fits: after a p line, within the declared number, and between two of its vertices
+-- the same before the p line, where there is no graph
+abbrev pub Held : Option Graph → List ℕ → Type 0
+Held None s = Seen [] s
+Held (Some g) s = Kept g s
+
+-- an e line that fits: within the declared number, and between two of its vertices
 pub record Fits (g : Graph) (a b : ℕ) : Type 0 where
-  pub known : g.known ≡ true
   pub room : g.lines < g.edges
   pub one_most : a ≤ g.vertices
   pub other_most : b ≤ g.vertices

@@ -2,11 +2,11 @@
 // Contracts cite specs/Reading (what a text means) and specs/Scans (what the structs stand for).
 #![tactic(auto)]
 
-ghost use Rattle.std.specs.Prelude.{◌≡◌, ◌+◌, ◌≤◌};
+ghost use Rattle.std.specs.Prelude.{◌≡◌, Some, IfOk, ◌+◌, ◌≤◌};
 ghost use Rattle.graphs.specs.Reading.{text_most, problem_fault, edge_fault, end_of, number_at};
-ghost use Rattle.graphs.specs.Scans.{state_of, edges_of, found_of};
+ghost use Rattle.graphs.specs.Scans.{state_of, ended};
 
-use refusals::{Refusal, Verdict};
+use refusals::Refusal;
 
 // A text has at most so many bytes.
 pub const TEXT_MOST: usize = 32768;
@@ -17,10 +17,16 @@ const VERTICES_MOST: u64 = 20;
 // A file has at most so many e lines.
 const LINES_MOST: u64 = 4096;
 
-// What the lines so far say: whether there was a p line, its numbers, how many e lines there were, and both ends of each different edge.
+// Why a text is refused, and in which line: 0 where no line applies.
+#[derive(Clone, Copy, PartialEq, Eq)]
+pub struct Fault {
+    pub why: Refusal,
+    pub line: u64,
+}
+
+// What the lines from the p line on say: its numbers, how many e lines there were, and both ends of each different edge.
 #[derive(Clone, Copy)]
 pub struct Graph {
-    pub known: bool,
     pub vertices: u64,
     pub edges: u64,
     pub lines: u64,
@@ -29,80 +35,51 @@ pub struct Graph {
     pub other: [u8; 64],
 }
 
-// What the whole text gives: a refusal with its line, or the graph; and the flags of the edges so far.
+// The graph of a whole text, and the flags of its edges.
 #[derive(Drop)]
 pub struct Scan {
-    pub verdict: Verdict,
-    pub line: u64,
     pub graph: Graph,
     pub seen: [u8; 441],
 }
 
 // Why a p line with these numbers is refused, where it is the first.
-pub fn problem_fault(v: u64, e: u64) -> Verdict
+pub fn problem_fault(v: u64, e: u64) -> Result<(), Refusal>
     ensures { result ≡ problem_fault v e }
 {
-    if v < 1 {
-        return Verdict::Refused(Refusal::Limits);
+    if v < 1 || v > VERTICES_MOST || e < 1 || e > LINES_MOST {
+        return Err(Refusal::Limits);
     }
-    if v > VERTICES_MOST {
-        return Verdict::Refused(Refusal::Limits);
-    }
-    if e < 1 {
-        return Verdict::Refused(Refusal::Limits);
-    }
-    if e > LINES_MOST {
-        return Verdict::Refused(Refusal::Limits);
-    }
-    Verdict::Done
+    Ok(())
 }
 
 // Why an e line is refused, after a p line with v and e and k e lines.
-pub fn edge_fault(v: u64, e: u64, k: u64, a: u64, b: u64) -> Verdict
+pub fn edge_fault(v: u64, e: u64, k: u64, a: u64, b: u64) -> Result<(), Refusal>
     ensures { result ≡ edge_fault v e k a b }
 {
     if e <= k {
-        return Verdict::Refused(Refusal::Count);
+        return Err(Refusal::Count);
     }
-    if a < 1 {
-        return Verdict::Refused(Refusal::Vertex);
+    if a < 1 || a > v || b < 1 || b > v || a == b {
+        return Err(Refusal::Vertex);
     }
-    if a > v {
-        return Verdict::Refused(Refusal::Vertex);
-    }
-    if b < 1 {
-        return Verdict::Refused(Refusal::Vertex);
-    }
-    if b > v {
-        return Verdict::Refused(Refusal::Vertex);
-    }
-    if a == b {
-        return Verdict::Refused(Refusal::Vertex);
-    }
-    Verdict::Done
+    Ok(())
 }
 
-// Why a text is refused after its last line.
-pub fn end_fault(g: Graph) -> Verdict
-    ensures { found_of result 0 g.vertices (edges_of g) ≡ end_of (state_of g) }
+// The graph after the last line, or why the text is refused there.
+pub fn end_fault(g: Option<Graph>) -> Result<Graph, Refusal>
+    ensures { (ended result ≡ end_of (state_of g)) × IfOk result (λ h. g ≡ Some h) }
 {
-    if !g.known {
-        return Verdict::Refused(Refusal::Order);
+    let g = g.ok_or(Refusal::Order)?;
+    if g.lines != g.edges {
+        return Err(Refusal::Count);
     }
-    if g.lines < g.edges {
-        return Verdict::Refused(Refusal::Count);
-    }
-    if g.edges < g.lines {
-        return Verdict::Refused(Refusal::Count);
-    }
-    Verdict::Done
+    Ok(g)
 }
 
 // A refusal and its line in one number.
-pub fn numbered(why: Refusal, line: u64) -> u64
-    requires { line ≤ 1 + text_most }
-    ensures { result ≡ number_at why line }
+pub fn numbered(f: Fault) -> u64
+    requires { f.line ≤ 1 + text_most }
+    ensures { result ≡ number_at f.why f.line }
 {
-    let number = refusals::number(why);
-    number + 256 * line
+    refusals::number(f.why) + 256 * f.line
 }

@@ -1,30 +1,23 @@
 -- Each verdict from the tests that the code makes, and the answer that goes with it.
+use Rattle.std.specs.Prelude.{Ok, Err}
 use mathlib.Core.Path.{◌≡◌, refl, sym, ap, ap₂, ◌∙◌}
 use Prim.Native.Nat.{ℕ, ◌^◌, ◌<◌, ◌≤◌}
 use lib.Dec.{leb}
 use borrow.Author.Tests.{le-leb, lt-leb, leb-false}
 use Rattle.refusals.specs.declared.Refusal.TheVariants.{Range}
-use Rattle.refusals.specs.declared.Verdict.{Verdict}
-use Rattle.refusals.specs.declared.Verdict.TheVariants as verdict
+use Rattle.refusals.specs.Refusal.{Verdict, done}
 use Rattle.refusals.specs.Limits.{Unknowns}
 use Rattle.refusals.proofs.RefusalLaw.{done_test, unknowns_next, unknowns_done}
 use Rattle.gray.specs.Answers.{convert_verdict, point_from, place_from, told, point_told, place_told}
 
--- refusal 4, and none
-pub range_high : (n x : ℕ) → Unknowns n → 3 ^ n ≤ x → convert_verdict n x ≡ verdict.Refused Range
-range_high n x w r = unknowns_next n _ w ∙ rw (le-leb (3 ^ n) x r)
-
-pub range_so : (n x : ℕ) → Unknowns n → x < 3 ^ n → convert_verdict n x ≡ verdict.Done
-range_so n x w r = unknowns_next n _ w ∙ rw (lt-leb (3 ^ n) x r)
-
 -- what an answer tells is what its verdict tells
 pub point_told_lem : (v : Verdict) (x : ℕ) → point_told (point_from v x) ≡ told v x
-point_told_lem verdict.Done x = refl
-point_told_lem (verdict.Refused r) x = refl
+point_told_lem (Ok _) x = refl
+point_told_lem (Err r) x = refl
 
 pub place_told_lem : (v : Verdict) (p : ℕ) → place_told (place_from v p) ≡ told v p
-place_told_lem verdict.Done p = refl
-place_told_lem (verdict.Refused r) p = refl
+place_told_lem (Ok _) p = refl
+place_told_lem (Err r) p = refl
 
 -- both promises of an answer, from its verdict and its value
 pub point_meets : (v w : Verdict) (x y : ℕ) → w ≡ v → y ≡ x → (point_from v y ≡ point_from w x) × (point_told (point_from v y) ≡ told w x)
@@ -38,8 +31,8 @@ place_meets v w x y e f =
     (s, ap place_told s ∙ place_told_lem w x)
 
 -- what is known of n and x once nothing is refused
-pub done_so : (n x : ℕ) → convert_verdict n x ≡ verdict.Done → Unknowns n × (x < 3 ^ n)
+pub done_so : (n x : ℕ) → convert_verdict n x ≡ done → Unknowns n × (x < 3 ^ n)
 done_so n x e =
     let w = unknowns_done n _ e in
-    let t = done_test (leb (3 ^ n) x) Range verdict.Done (sym (unknowns_next n _ w) ∙ e) in
+    let t = done_test (leb (3 ^ n) x) Range done (sym (unknowns_next n _ w) ∙ e) in
     (w, leb-false (3 ^ n) x t)

@@ -26,14 +26,6 @@ pub record Stored (f : ℕ → ℕ) (a k : ℕ) (d : List ℕ) : Type 0 where
   pub here : (j : ℕ) → a ≤ j → j < k → get_or d j 0 ≡ f j
   pub none : (j : ℕ) → (a ≤ j → j < k → ⊥) → get_or d j 0 ≡ 0
 
-zeros : (k i : ℕ) → get_or {A = ℕ} (replicate k 0) i 0 ≡ 0
-zeros zero i = refl
-zeros (suc k) zero = refl
-zeros (suc k) (suc i) = zeros k i
-
-pub stored_none : (f : ℕ → ℕ) (a k : ℕ) → k ≤ a → Stored f a k (replicate 20 0)
-stored_none f a k h = record { size = refl; here = λ j l m. absurd (omega arith); none = λ j z. zeros 20 j }
-
 pub stored_next : (f : ℕ → ℕ) (a k v : ℕ) (d : List ℕ) → a ≤ k → k < 20 → v ≡ f k → Stored f a k d → Stored f a (k + 1) (set d k v)
 stored_next f a k v d g l e s =
     let i : k < length d = omega (arith, s.size) in

@@ -12,12 +12,10 @@ pub fn digits_at(n: usize, from: usize, power: u64, p: Place) -> [u64; 20]
 {
     let mut d = [0u64; 20];
     let mut rest = p.0 / power;
-    let mut k = from;
-    while k < n {
+    for k in from..n {
         let up = rest / 3;
         d[k] = (rest % 3 + 3 - up % 3) % 3;
         rest = up;
-        k += 1;
     }
     d
 }

@@ -2,8 +2,6 @@
 // Contracts cite specs/Numbers (digits and the map) and Answers (refusals).
 #![tactic(auto)]
 
-use refusals::Refusal;
-
 mod digits;
 mod map;
 
@@ -11,23 +9,9 @@ pub use digits::digits_at;
 pub use map::{convertible, place_at, place_of, point_at, point_of};
 
 // A position in the walk, counted from 0.
-#[derive(Clone, Copy)]
+#[derive(Clone, Copy, PartialEq, Eq)]
 pub struct Place(pub u64);
 
 // A point, numbered x0 + 3 x1 + 9 x2 + ..
-#[derive(Clone, Copy)]
+#[derive(Clone, Copy, PartialEq, Eq)]
 pub struct Point(pub u64);
-
-// A point, or why there is none.
-#[derive(Drop)]
-pub enum PointAnswer {
-    At(Point),
-    Refused(Refusal),
-}
-
-// A place, or why there is none.
-#[derive(Drop)]
-pub enum PlaceAnswer {
-    At(Place),
-    Refused(Refusal),
-}

@@ -4,9 +4,9 @@ ghost use Rattle.refusals.specs.Limits.{most_unknowns};
 ghost use Rattle.gray.specs.Numbers.{point_of, place_of};
 ghost use Rattle.gray.specs.Answers.{convert_verdict, point_from, place_from, told, point_told, place_told};
 
-use crate::{Place, PlaceAnswer, Point, PointAnswer};
+use crate::{Place, Point};
 use positions::power;
-use refusals::{Refusal, Verdict, unknowns_fit};
+use refusals::{Refusal, unknowns_fit};
 
 // The point at a place below 3 to the n, for a caller that knows n to be at most 20: no test, and no division but by 3.
 pub fn point_at(n: u64, p: Place) -> Point
@@ -16,14 +16,12 @@ pub fn point_at(n: u64, p: Place) -> Point
     let mut rest = p.0;
     let mut weight: u64 = 1;
     let mut point: u64 = 0;
-    let mut i: u64 = 0;
-    while i < n {
+    for _ in 0..n {
         let above = rest / 3;
         let digit = (rest % 3 + 3 - above % 3) % 3;
-        point = point + weight * digit;
-        weight = weight * 3;
+        point += weight * digit;
+        weight *= 3;
         rest = above;
-        i += 1;
     }
     Point(point)
 }
@@ -37,55 +35,41 @@ pub fn place_at(n: u64, x: Point) -> Place
     let point = x.0;
     let mut weight = power(n);
     let mut place: u64 = 0;
-    let mut i: u64 = 0;
-    while i < n {
-        weight = weight / 3;
+    for _ in 0..n {
+        weight /= 3;
         place = 3 * place + (point / weight % 3 + place) % 3;
-        i += 1;
     }
     Place(place)
 }
 
 // Whether place or point x of n unknowns is to be converted.
-pub fn convertible(n: u64, x: u64) -> Verdict
+pub fn convertible(n: u64, x: u64) -> Result<(), Refusal>
     ensures { result ≡ convert_verdict n x }
 {
     if !unknowns_fit(n) {
-        return Verdict::Refused(Refusal::Size);
+        return Err(Refusal::Size);
     }
     let end = power(n);
     if x >= end {
-        return Verdict::Refused(Refusal::Range);
+        return Err(Refusal::Range);
     }
-    Verdict::Done
+    Ok(())
 }
 
 // The point at a place of the walk over n unknowns.
-pub fn point_of(n: u64, p: Place) -> PointAnswer
+pub fn point_of(n: u64, p: Place) -> Result<Point, Refusal>
     ensures answer { result ≡ point_from (convert_verdict n p.0) (point_of 3 n p.0) }
     ensures number { point_told result ≡ told (convert_verdict n p.0) (point_of 3 n p.0) }
 {
-    let verdict = convertible(n, p.0);
-    match verdict {
-        Verdict::Refused(r) => PointAnswer::Refused(r),
-        Verdict::Done => {
-            let point = point_at(n, p);
-            PointAnswer::At(point)
-        }
-    }
+    convertible(n, p.0)?;
+    Ok(point_at(n, p))
 }
 
 // The place of a point of n unknowns.
-pub fn place_of(n: u64, x: Point) -> PlaceAnswer
+pub fn place_of(n: u64, x: Point) -> Result<Place, Refusal>
     ensures answer { result ≡ place_from (convert_verdict n x.0) (place_of 3 n x.0) }
     ensures number { place_told result ≡ told (convert_verdict n x.0) (place_of 3 n x.0) }
 {
-    let verdict = convertible(n, x.0);
-    match verdict {
-        Verdict::Refused(r) => PlaceAnswer::Refused(r),
-        Verdict::Done => {
-            let place = place_at(n, x);
-            PlaceAnswer::At(place)
-        }
-    }
+    convertible(n, x.0)?;
+    Ok(place_at(n, x))
 }

@@ -1,4 +1,5 @@
 -- Words that pass through bytes: lists, answers and zeros are read as they were written.
+use Rattle.std.specs.Prelude.{Ok}
 use mathlib.Core.Path.{◌≡◌, refl, sym, ap, ◌∙◌}
 use mathlib.Core.Bool.{Bool, true, false}
 use mathlib.Core.List.{List, [], ◌∷◌, ◌++◌}
@@ -15,7 +16,6 @@ use Rattle.walks.specs.declared.Stop.TheVariants.{Ended, Full, Spent}
 use Rattle.walks.specs.Calls.{Trail, listed, zeros_in, stop_number, stop_place}
 use Rattle.codec.specs.Codec.{words_of, words_in, bytes_from, pasted, AllBelow}
 use Rattle.codec.proofs.CodecLaw.{words_bytes, length_from, from_append, below_drop}
-use Rattle.outcomes.specs.declared.Answer.TheVariants.{Ran}
 use Rattle.outcomes.specs.Search.{answer_values}
 use Rattle.wire.proofs.SmallLaw.{below_nil, below_cons, below_append}
 use Rattle.harness.specs.Harness.{stop_said, report_said, are_words}
@@ -70,14 +70,14 @@ stop_small (Full x) = omega arith
 stop_small (Spent x) = omega arith
 
 pub values_back : (e : ℕ) (w : Report) → stop_place e w.stop < 2 ^ 64 → w.points < 2 ^ 64 → w.additions < 2 ^ 64 → w.found < 2 ^ 64
-    → words_in (bytes_from (answer_values e (Ran w))) ≡ answer_values e (Ran w)
+    → words_in (bytes_from (answer_values e (Ok w))) ≡ answer_values e (Ok w)
 values_back e w a b c d =
     let k = 2 ^ 64 in
-    words_back (answer_values e (Ran w))
+    words_back (answer_values e (Ok w))
     (below_cons k (stop_number w.stop) (stop_place e w.stop ∷ w.points ∷ w.additions ∷ w.found ∷ []) (stop_small w.stop)
     (below_cons k (stop_place e w.stop) (w.points ∷ w.additions ∷ w.found ∷ []) a
     (below_cons k w.points (w.additions ∷ w.found ∷ []) b
     (below_cons k w.additions (w.found ∷ []) c (below_cons k w.found [] d (below_nil k))))))
 
-pub answer_back : (e : ℕ) (w : Report) → report_said (answer_values e (Ran w)) ≡ w
+pub answer_back : (e : ℕ) (w : Report) → report_said (answer_values e (Ok w)) ≡ w
 answer_back e w i = record { stop = stop_back e w.stop i; points = w.points; additions = w.additions; found = w.found }

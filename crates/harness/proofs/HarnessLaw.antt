@@ -1,4 +1,5 @@
 -- Demand 3 over bytes: `vayudrit_search` on the bytes of a checked table serves the walk of its system, so the laws of runs of calls hold of it.
+use Rattle.std.specs.Prelude.{Ok, Err}
 use mathlib.Core.Path.{◌≡◌, refl, sym, ap, ap₂, subst, ◌∙◌}
 use mathlib.Core.Bool.{Bool, true, false}
 use mathlib.Core.Logic.{◌⊎◌, inl, inr}
@@ -11,10 +12,8 @@ use lib.Dec.{eqb}
 use lib.ListN.{length}
 use borrow.Author.Tests.{eqb-false}
 use Rattle.refusals.specs.declared.Refusal.TheVariants as refusal
-use Rattle.refusals.specs.declared.Verdict.{Verdict}
-use Rattle.refusals.specs.declared.Verdict.TheVariants as verdict
+use Rattle.refusals.specs.Refusal.{Verdict, code_of, refuse, after, done}
 use Rattle.refusals.specs.Choice.{pick}
-use Rattle.refusals.specs.Refusal.{code_of, refuse, after}
 use Rattle.refusals.specs.Limits.{Within}
 use Rattle.gray.specs.Numbers.{point_of}
 use Rattle.walks.specs.declared.Report.{Report}
@@ -33,7 +32,6 @@ use Rattle.given.proofs.TableLaw.{within, power_small}
 use Rattle.given.proofs.ValuesLaw.{flat_values, ext_values}
 use Rattle.opening.specs.declared.Record.{Record}
 use Rattle.opening.specs.Opened.{opened_at}
-use Rattle.outcomes.specs.declared.Answer.TheVariants.{Ran}
 use Rattle.outcomes.specs.declared.Outcome.{Outcome}
 use Rattle.outcomes.specs.Search.{trail_behind, search_verdict, ran_of, outcome_from, answer_values}
 use Rattle.outcomes.proofs.VerdictLaw.{asked, verdict_opened}
@@ -128,13 +126,13 @@ module _ (g : Given) (answers : List ℕ → Request → List ℕ) (lent : Lent 
     abbrev w : Report
     w = report_of T b (length l) p
 
-    ran_outcome : asked b l ≡ verdict.Done → done_of g (at p) b (bytes_from l) ≡ ran_of t p b (length l)
+    ran_outcome : asked b l ≡ done → done_of g (at p) b (bytes_from l) ≡ ran_of t p b (length l)
     ran_outcome e =
         ap₂ (λ (r : Record) (x : List ℕ). outcome_from (search_verdict t r b x) r (ran_of t r.place.0 b (length x))) (at_back p h) list_back
         ∙ ap (λ (v : Verdict). outcome_from v (opened_at t p) (ran_of t (opened_at t p).place.0 b (length l))) (verdict_opened t p b l lent.checked h ∙ e)
         ∙ ap (λ (x : ℕ). ran_of t x b (length l)) (place_opened t p)
 
-    ran_list : asked b l ≡ verdict.Done → list_in t (record_in (at p)) b (bytes_from l) ≡ pasted (bytes_from l) 0 (bytes_from (found_in t p b (length l)))
+    ran_list : asked b l ≡ done → list_in t (record_in (at p)) b (bytes_from l) ≡ pasted (bytes_from l) 0 (bytes_from (found_in t p b (length l)))
     ran_list e =
         ap₂ (λ (r : Record) (x : List ℕ). after (search_verdict t r b x) (bytes_from l) (pasted (bytes_from l) 0 (bytes_from (found_in t r.place.0 b (length x))))) (at_back p h) list_back
         ∙ ap (λ (v : Verdict). after v (bytes_from l) (pasted (bytes_from l) 0 (bytes_from (found_in t (opened_at t p).place.0 b (length l))))) (verdict_opened t p b l lent.checked h ∙ e)
@@ -147,7 +145,7 @@ module _ (g : Given) (answers : List ℕ → Request → List ℕ) (lent : Lent 
     place_is : stop_place (3 ^ g.n) w.stop ≡ p + k
     place_is = ap (λ (x : ℕ). stop_place x w.stop) (sym (end_is t)) ∙ report_place T b (length l) p
 
-    values_are : words_in (bytes_from (answer_values (3 ^ g.n) (ran_of t p b (length l)).answer)) ≡ answer_values (3 ^ g.n) (Ran w)
+    values_are : words_in (bytes_from (answer_values (3 ^ g.n) (ran_of t p b (length l)).answer)) ≡ answer_values (3 ^ g.n) (Ok w)
     unfolding report_of
     values_are =
         let s = place_small (p + k) far in
@@ -162,19 +160,19 @@ module _ (g : Given) (answers : List ℕ → Request → List ℕ) (lent : Lent 
         front_back l (zeros_in T p k) (zeros_room T b (length l) p) (are_below l words)
         (zeros_below T (2 ^ 64) (λ x. omega (arith, entry_lt t x, place_small (3 ^ g.n) (omega arith))) p k)
 
-    pub ran_call : asked b l ≡ verdict.Done → reply_by g answer (at p) q ≡ ran_by T at p q
+    pub ran_call : asked b l ≡ done → reply_by g answer (at p) q ≡ ran_by T at p q
     unfolding record_at
     ran_call e =
-        reply_by_lem verdict.Done e
-        ∙ ap₂ (λ (o : Outcome) (new : List ℕ). reply_from verdict.Done o new) (ran_outcome e) (ran_list e)
+        reply_by_lem done e
+        ∙ ap₂ (λ (o : Outcome) (new : List ℕ). reply_from done o new) (ran_outcome e) (ran_list e)
         ∙ (λ i. record { told = told_is i; state = bytes_from (record_words (opened_at t (p + k))); list = list_is i })
 
     -- a refused one
-    pub budget_away : asked b l ≡ verdict.Refused refusal.Budget → reply_by g answer (at p) q ≡ away_with (at p) q
-    budget_away e = reply_by_lem (verdict.Refused refusal.Budget) e ∙ ap (λ (x : List ℕ). record { told = (away_with (at p) q).told; state = at p; list = x }) list_back
+    pub budget_away : asked b l ≡ Err refusal.Budget → reply_by g answer (at p) q ≡ away_with (at p) q
+    budget_away e = reply_by_lem (Err refusal.Budget) e ∙ ap (λ (x : List ℕ). record { told = (away_with (at p) q).told; state = at p; list = x }) list_back
 
-    pub list_away : asked b l ≡ verdict.Refused refusal.List → reply_by g answer (at p) q ≡ away_with (at p) q
-    list_away e = reply_by_lem (verdict.Refused refusal.List) e ∙ ap (λ (x : List ℕ). record { told = (away_with (at p) q).told; state = at p; list = x }) list_back
+    pub list_away : asked b l ≡ Err refusal.List → reply_by g answer (at p) q ≡ away_with (at p) q
+    list_away e = reply_by_lem (Err refusal.List) e ∙ ap (λ (x : List ℕ). record { told = (away_with (at p) q).told; state = at p; list = x }) list_back
 
     -- the answer's bytes, by the verdict and the outcome
     abbrev AnswerFrom : Verdict → Outcome → Type 0
@@ -182,17 +180,17 @@ module _ (g : Given) (answers : List ℕ → Request → List ℕ) (lent : Lent 
         let new = after v answer (bytes_from (answer_values (3 ^ g.n) o.answer)) in
         OneAnswer p answer new (told_by (code_of v) new)
 
-    answer_ran : AnswerFrom verdict.Done (ran_of t p b (length l))
+    answer_ran : AnswerFrom done (ran_of t p b (length l))
     unfolding report_of
     answer_ran =
         subst (OneAnswer p answer (bytes_from (answer_values (3 ^ g.n) (ran_of t p b (length l)).answer))) (sym told_is)
         (values_are ∙ ap (λ (x : ℕ). stop_number w.stop ∷ x ∷ w.points ∷ w.additions ∷ w.found ∷ []) place_is)
 
-    pub answer_by_lem : (x y : Bool) → asked b l ≡ refuse x refusal.Budget (refuse y refusal.List verdict.Done)
-        → AnswerFrom (refuse x refusal.Budget (refuse y refusal.List verdict.Done)) (done_of g (at p) b (bytes_from l))
+    pub answer_by_lem : (x y : Bool) → asked b l ≡ refuse x refusal.Budget (refuse y refusal.List done)
+        → AnswerFrom (refuse x refusal.Budget (refuse y refusal.List done)) (done_of g (at p) b (bytes_from l))
     answer_by_lem true y e = refl
     answer_by_lem false true e = refl
-    answer_by_lem false false e = subst (AnswerFrom verdict.Done) (sym (ran_outcome e)) answer_ran
+    answer_by_lem false false e = subst (AnswerFrom done) (sym (ran_outcome e)) answer_ran
 
     pub answer_is : AnswerFrom (call_verdict g (at p) b (bytes_from l) answer) (done_of g (at p) b (bytes_from l))
     answer_is =
@@ -207,8 +205,8 @@ module _ (g : Given) (answers : List ℕ → Request → List ℕ) (lent : Lent 
       near = subst (λ (x : ℕ). p ≤ x) (end_is t) h
 
       asked_by : (x y : Bool) → eqb q.budget 0 ≡ x → eqb (length q.list) 0 ≡ y
-          → asked q.budget q.list ≡ refuse x refusal.Budget (refuse y refusal.List verdict.Done)
-      asked_by x y d c = ap₂ (λ (u v : Bool). refuse u refusal.Budget (refuse v refusal.List verdict.Done)) d c
+          → asked q.budget q.list ≡ refuse x refusal.Budget (refuse y refusal.List done)
+      asked_by x y d c = ap₂ (λ (u v : Bool). refuse u refusal.Budget (refuse v refusal.List done)) d c
 
       call_by : are_words q.list ≡ true → (x y : Bool) → eqb q.budget 0 ≡ x → eqb (length q.list) 0 ≡ y
           → (reply_by g (answers (at p) q) (at p) q ≡ away_with (at p) q) ⊎ (Asks q × (reply_by g (answers (at p) q) (at p) q ≡ ran_by T at p q))

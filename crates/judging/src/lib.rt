@@ -11,9 +11,8 @@ ghost use Rattle.outcomes.specs.Search.{same_record, fits, room_verdict};
 
 use comparing::{same_first, same_seconds};
 use given::Degree;
-use gray::Place;
 use opening::First;
-use refusals::{Refusal, Verdict};
+use refusals::Refusal;
 
 // Whether a record is that of a checked table of degree 2 at its place.
 fn fits_two(n: u64, m: u64, table: &[u64], f: First) -> bool
@@ -30,19 +29,7 @@ fn fits_three(n: u64, m: u64, table: &[u64], f: First, seconds: &[u64]) -> bool
     ensures { result ≡ same_record (whole_of degree.Three f seconds.now) (opened_at (cubic n m table.now) f.place.0) }
 {
     let o = opening::record_at(Degree::Three, n, m, table, f.place.0);
-    let value = o.value;
-    let slots = o.slots;
-    let first = First {
-        n: o.n,
-        m: o.m,
-        place: Place(o.place.0),
-        value,
-        slots,
-    };
-    if !same_first(f, first) {
-        return false;
-    }
-    same_seconds(seconds, &o.seconds)
+    same_first(f, o.first()) && same_seconds(seconds, &o.seconds)
 }
 
 // Whether a record is that of a checked table at its place.
@@ -59,32 +46,6 @@ fn fits_table(degree: Degree, n: u64, m: u64, table: &[u64], f: First, seconds: 
     }
 }
 
-// The table was checked: record, budget and the list's length are left to judge.
-fn judged_checked(
-    degree: Degree,
-    n: u64,
-    m: u64,
-    table: &[u64],
-    f: First,
-    seconds: &[u64],
-    budget: u64,
-    room: usize,
-) -> Verdict
-    requires { Checked (table_with degree n m table.now) × (length seconds.now ≡ lent_words degree) }
-    ensures { result ≡ room_verdict (table_with degree n m table.now) (whole_of degree f seconds.now) budget room }
-{
-    if !fits_table(degree, n, m, table, f, seconds) {
-        return Verdict::Refused(Refusal::Record);
-    }
-    if budget == 0 {
-        return Verdict::Refused(Refusal::Budget);
-    }
-    if room == 0 {
-        return Verdict::Refused(Refusal::List);
-    }
-    Verdict::Done
-}
-
 // All that a call is refused for, with a list of so many entries. Public for lists that are filled piece by piece, whose calls are judged once.
 pub fn judged(
     degree: Degree,
@@ -95,13 +56,19 @@ pub fn judged(
     seconds: &[u64],
     budget: u64,
     room: usize,
-) -> Verdict
+) -> Result<(), Refusal>
     requires { length seconds.now ≡ lent_words degree }
     ensures { result ≡ room_verdict (table_with degree n m table.now) (whole_of degree f seconds.now) budget room }
 {
-    let verdict = given::check(degree, n, m, table);
-    match verdict {
-        Verdict::Refused(x) => Verdict::Refused(x),
-        Verdict::Done => judged_checked(degree, n, m, table, f, seconds, budget, room),
+    given::check(degree, n, m, table)?;
+    if !fits_table(degree, n, m, table, f, seconds) {
+        return Err(Refusal::Record);
     }
+    if budget == 0 {
+        return Err(Refusal::Budget);
+    }
+    if room == 0 {
+        return Err(Refusal::List);
+    }
+    Ok(())
 }

@@ -6,14 +6,10 @@
 use refusals::{MOST_WORDS, PIECE_ENTRIES};
 use sending::TEXT_BYTES;
 use std::process::ExitCode;
-use streams::{Input, Output, READER_GONE};
+use streams::{Output, READER_GONE};
 
-// What is to be told, or words where there is nothing; and nothing at all where the reader is gone, who knows.
-fn tell(rt: &HostRuntime, out: &Output, line: &[u8]) -> ExitCode {
-    if line.len() != 0 {
-        streams::tell(line);
-        return ExitCode::SUCCESS;
-    }
+// Words where there is nothing to tell; and nothing at all where the reader is gone, who knows.
+fn untold(rt: &HostRuntime, out: &Output) -> ExitCode {
     if out.gone {
         return ExitCode::from(READER_GONE);
     }
@@ -29,23 +25,24 @@ fn main(rt: HostRuntime) -> ExitCode {
     let mut text = [0u8; TEXT_BYTES];
     let mut from = rt.stdin();
     let mut out = Output::new(&rt);
-    match streams::receive(&mut from, &mut buf) {
-        Input::Failed => {
-            streams::say(&rt, b"layouts: standard input could not be read\n");
+    let Ok(k) = streams::receive(&mut from, &mut buf) else {
+        streams::say(&rt, b"layouts: standard input could not be read\n");
+        return ExitCode::SUCCESS;
+    };
+    let ending = sending::run(
+        &rt,
+        &mut out,
+        &buf[..k],
+        &mut words,
+        &mut table,
+        &mut list,
+        &mut text,
+    );
+    match ending.told {
+        Some(told) => {
+            streams::tell(&text[..told]);
             ExitCode::SUCCESS
         }
-        Input::Bytes(k) => {
-            let ending = sending::run(
-                &rt,
-                &mut out,
-                &buf[..k],
-                &mut words,
-                &mut table,
-                &mut list,
-                &mut text,
-            );
-            let told = ending.told;
-            tell(&rt, &out, &text[..told])
-        }
+        None => untold(&rt, &out),
     }
 }

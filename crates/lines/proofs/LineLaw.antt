@@ -1,20 +1,21 @@
 -- Bytes one at a time: what remains of a list after i of its bytes decides the rest.
 use mathlib.Core.Path.{◌≡◌, refl, sym, ap, ◌∙◌}
-use mathlib.Core.Bool.{Bool, true, false, ◌&&◌}
+use mathlib.Core.Bool.{Bool, true, false, ◌&&◌, ◌||◌}
 use mathlib.Core.List.{List, [], ◌∷◌}
 use mathlib.Core.Logic.{by_cases}
 use Prim.Native.Nat.{ℕ, zero, suc, ◌+◌, ◌-◌, ◌*◌, ◌^◌, ◌≤◌, ◌<◌}
-use native.Mathlib.Decide.{dec_lt}
+use native.Mathlib.Decide.{dec_lt, ℕ_discrete}
 use native.Mathlib.Numerals.{add-one}
 use native.Mathlib.Omega.{arith}
 use lib.Dec.{eqb}
+use lib.Pointwise.{pointwise}
 use lib.ListN.{length, get_or, take, drop, drop_of_length-le, length-drop}
 use lib.Seq.{drop-cons, take_all}
 use borrow.Author.Tests.{eq-eqb, ne_eqb, lt-ltb, le-ltb, le-leb, lt-leb}
-use Rattle.lines.specs.declared.Number.{Number}
-use Rattle.lines.specs.declared.Number.TheVariants as number
-use Rattle.lines.specs.declared.Pair.TheVariants as pair
-use Rattle.lines.specs.Lines.{first_of, decimal_from, is_padded, number_in, both, pair_in, starts, is_comment}
+use Rattle.std.specs.Prelude.{Option, Some, None, unwrap_or, MatchOption}
+use Rattle.std.specs.List.{AllWithin, HoldsAt}
+use Rattle.std.proofs.lemmas.Iterator.{index_from_first}
+use Rattle.lines.specs.Lines.{Number, first_of, is_digit, decimal_from, is_padded, number_in, both, pair_in, starts, is_comment}
 
 -- ---- the first b
 pub first_stop : (b x : ℕ) (t : List ℕ) → x ≡ b → first_of b (x ∷ t) ≡ 0
@@ -29,15 +30,10 @@ pub first_none : (b : ℕ) → first_of b [] ≡ 0
 unfolding first_of
 first_none b = refl
 
-module _ (b : ℕ) (s : List ℕ) (i : ℕ) where
-  pub find_here : i < length s → get_or s i 0 ≡ b → first_of b (drop i s) ≡ 0
-  find_here h e = rw (drop-cons s i 0 h) (first_stop b (get_or s i 0) (drop (suc i) s) e)
-
-  pub find_next : i < length s → (get_or s i 0 ≡ b → ⊥) → first_of b (drop i s) ≡ suc (first_of b (drop (i + 1) s))
-  find_next h d = rw (add-one i, drop-cons s i 0 h) (first_more b (get_or s i 0) (drop (suc i) s) d)
-
-  pub find_end : length s ≤ i → first_of b (drop i s) ≡ 0
-  find_end h = rw (drop_of_length-le s h) (first_none b)
+pub first_found : (b : ℕ) (s : List ℕ) (r : Option ℕ) → MatchOption r (AllWithin (λ x. x ≡ b → ⊥) s 0 (length s)) (λ i. (i < length s) × HoldsAt (λ x. x ≡ b) s i × AllWithin (λ x. x ≡ b → ⊥) s 0 i)
+    → first_of b s ≡ unwrap_or r (length s)
+first_found b s r =
+    index_from_first (first_of b) (λ x. x ≡ b) (λ x. x ≡ b → ⊥) (first_none b) (first_stop b) (λ x t d. rw (first_more b x t d) (omega arith)) s r
 
 -- no more than all
 pub first_le : (b : ℕ) (s : List ℕ) → first_of b s ≤ length s
@@ -54,25 +50,22 @@ digit_more : (a x : ℕ) (t : List ℕ) → 48 ≤ x → x ≤ 57 → decimal_fr
 unfolding decimal_from
 digit_more a x t h l = rw (le-leb 48 x h, le-leb x 57 l, decimal_from)
 
-pub digit_low : (a x : ℕ) (t : List ℕ) → x < 48 → decimal_from a (x ∷ t) ≡ number.Wrong
+pub digit_low : (a x : ℕ) (t : List ℕ) → x < 48 → decimal_from a (x ∷ t) ≡ None
 unfolding decimal_from
 digit_low a x t h = rw (lt-leb 48 x h, decimal_from)
 
-digit_high : (a x : ℕ) (t : List ℕ) → 57 < x → decimal_from a (x ∷ t) ≡ number.Wrong
+pub digit_none : (a x : ℕ) (t : List ℕ) → is_digit x ≡ false → decimal_from a (x ∷ t) ≡ None
 unfolding decimal_from
-digit_high a x t h = let l : 48 ≤ x = omega arith in rw (le-leb 48 x l, lt-leb x 57 h, decimal_from)
+digit_none a x t e = rw (e, decimal_from)
 
 module _ (s : List ℕ) (i a : ℕ) where
   pub decimal_next : i < length s → 48 ≤ get_or s i 0 → get_or s i 0 ≤ 57 → decimal_from a (drop i s) ≡ decimal_from (10 * a + (get_or s i 0 - 48)) (drop (i + 1) s)
   decimal_next h l m = rw (add-one i, drop-cons s i 0 h) (digit_more a (get_or s i 0) (drop (suc i) s) l m)
 
-  pub decimal_low : i < length s → get_or s i 0 < 48 → decimal_from a (drop i s) ≡ number.Wrong
-  decimal_low h l = rw (drop-cons s i 0 h) (digit_low a (get_or s i 0) (drop (suc i) s) l)
+  pub decimal_none : i < length s → is_digit (get_or s i 0) ≡ false → decimal_from a (drop i s) ≡ None
+  decimal_none h e = rw (drop-cons s i 0 h) (digit_none a (get_or s i 0) (drop (suc i) s) e)
 
-  pub decimal_high : i < length s → 57 < get_or s i 0 → decimal_from a (drop i s) ≡ number.Wrong
-  decimal_high h l = rw (drop-cons s i 0 h) (digit_high a (get_or s i 0) (drop (suc i) s) l)
-
-  pub decimal_end : length s ≤ i → decimal_from a (drop i s) ≡ number.Value a
+  pub decimal_end : length s ≤ i → decimal_from a (drop i s) ≡ Some a
   unfolding decimal_from
   decimal_end h = rw (drop_of_length-le s h)
 
@@ -90,12 +83,12 @@ small_five (suc (suc (suc (suc (suc zero))))) a h l = omega arith
 small_five (suc (suc (suc (suc (suc (suc i)))))) a h l = absurd (omega arith)
 
 -- ---- two numbers
-pub both_wrong : (x : Number) → both x number.Wrong ≡ pair.Wrong
-both_wrong (number.Value a) = refl
-both_wrong number.Wrong = refl
+pub both_wrong : (x : Number) → both x None ≡ None
+both_wrong (Some a) = refl
+both_wrong None = refl
 
 -- without a space there is no second number
-pub pair_none : (s : List ℕ) → length s ≤ first_of 32 s → pair_in s ≡ pair.Wrong
+pub pair_none : (s : List ℕ) → length s ≤ first_of 32 s → pair_in s ≡ None
 unfolding pair_in
 pair_none s h =
     let l : length s ≤ first_of 32 s + 1 = omega arith in
@@ -122,18 +115,14 @@ starts_short (x ∷ f) (y ∷ s) h = ap (λ (b : Bool). eqb y x && b) (starts_sh
     none true = refl
     none false = refl
 
-module _ (f s : List ℕ) (i : ℕ) where
-  pub starts_next : i < length f → i < length s → get_or s i 0 ≡ get_or f i 0 → starts (drop i f) (drop i s) ≡ starts (drop (i + 1) f) (drop (i + 1) s)
-  starts_next h l e =
-      rw (add-one i, drop-cons f i 0 h, drop-cons s i 0 l) (starts_same (get_or f i 0) (drop (suc i) f) (get_or s i 0) (drop (suc i) s) e)
-
-  pub starts_stop : i < length f → i < length s → (get_or s i 0 ≡ get_or f i 0 → ⊥) → starts (drop i f) (drop i s) ≡ false
-  starts_stop h l d =
-      rw (drop-cons f i 0 h, drop-cons s i 0 l) (starts_differ (get_or f i 0) (drop (suc i) f) (get_or s i 0) (drop (suc i) s) d)
-
-  pub starts_end : length f ≤ i → starts (drop i f) (drop i s) ≡ true
-  unfolding starts
-  starts_end h = rw (drop_of_length-le f h)
+-- what `starts_with` tests
+pub starts_is : (f s : List ℕ) → pointwise eqb f (take (length f) s) ≡ starts f s
+unfolding starts
+starts_is [] s = refl
+starts_is (x ∷ f) [] = refl
+starts_is (x ∷ f) (y ∷ s) =
+    by_cases (ℕ_discrete y x) (λ e. rw (e, eq-eqb x x refl) (starts_is f s))
+    (λ d. rw (ne_eqb y x d, ne_eqb x y (λ e. d (sym e))) refl)
 
 -- a line that begins so is as long
 pub starts_long : (f s : List ℕ) → starts f s ≡ true → length f ≤ length s
@@ -143,24 +132,34 @@ starts_long f s e = by_cases (dec_lt (length s) (length f)) (λ h. absurd (clash
     clash q = let z : ◌≡◌ {A = ℕ} 0 1 = cc in omega arith
 
 -- ---- comments and numbers
-module _ (s : List ℕ) where
-  pub comment_bytes : starts (99 ∷ 32 ∷ []) s ≡ true → true ≡ is_comment s
-  comment_bytes e = rw e
+-- the line "c"
+alone : (s : List ℕ) → pointwise eqb s (99 ∷ []) ≡ (eqb (length s) 1 && starts (99 ∷ []) s)
+unfolding starts
+alone [] = refl
+alone (x ∷ []) = refl
+alone (x ∷ y ∷ t) = rw (ne_eqb (length (x ∷ y ∷ t)) 1 (λ e. omega arith)) (none (eqb x 99))
+  where
+    none : (b : Bool) → (b && false) ≡ false
+    none true = refl
+    none false = refl
 
-  pub comment_alone : starts (99 ∷ 32 ∷ []) s ≡ false → length s ≡ 1 → starts (99 ∷ []) s ≡ is_comment s
-  comment_alone e h = rw (e, eq-eqb (length s) 1 h)
+module _ (s : List ℕ) where
+  pub comment_alone : pointwise eqb s (99 ∷ []) ≡ true → true ≡ is_comment s
+  comment_alone e = rw (sym (alone s) ∙ e) (sym (or_true (starts (99 ∷ 32 ∷ []) s)))
+    where
+      or_true : (b : Bool) → (b || true) ≡ true
+      or_true true = refl
+      or_true false = refl
+
+  pub comment_other : pointwise eqb s (99 ∷ []) ≡ false → starts (99 ∷ 32 ∷ []) s ≡ is_comment s
+  comment_other e = rw (sym (alone s) ∙ e) (sym (or_none (starts (99 ∷ 32 ∷ []) s)))
+    where
+      or_none : (b : Bool) → (b || false) ≡ b
+      or_none true = refl
+      or_none false = refl
 
   pub comment_none : starts (99 ∷ 32 ∷ []) s ≡ false → (length s ≡ 1 → ⊥) → false ≡ is_comment s
   comment_none e h = rw (e, ne_eqb (length s) 1 h)
-
-  pub number_short : length s < 1 → number.Wrong ≡ number_in s
-  number_short h = rw (lt-ltb (length s) 1 h)
-
-  pub number_long : 1 ≤ length s → 5 < length s → number.Wrong ≡ number_in s
-  number_long l h = rw (le-ltb (length s) 1 l, lt-ltb 5 (length s) h)
-
-  pub number_padded : 1 ≤ length s → length s ≤ 5 → is_padded s ≡ true → number.Wrong ≡ number_in s
-  number_padded l h e = rw (le-ltb (length s) 1 l, le-ltb 5 (length s) h, e)
 
   pub number_plain : 1 ≤ length s → length s ≤ 5 → is_padded s ≡ false → decimal_from 0 s ≡ number_in s
   number_plain l h e = rw (le-ltb (length s) 1 l, le-ltb 5 (length s) h, e)

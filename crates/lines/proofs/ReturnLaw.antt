@@ -11,10 +11,8 @@ use lib.Dec.{eqb, ltb}
 use lib.ListN.{length, get_or, take, drop, take-append-drop, drop_of_length-le}
 use lib.Seq.{drop-cons}
 use borrow.Author.Tests.{eq-eqb, ne_eqb}
-use Rattle.lines.specs.declared.Number.{Number}
-use Rattle.lines.specs.declared.Number.TheVariants as number
-use Rattle.lines.specs.declared.Pair.TheVariants as pair
-use Rattle.lines.specs.Lines.{has, first_of, is_digit, decimal_from, pick_number, is_padded, number_in, both, pair_in, starts}
+use Rattle.std.specs.Prelude.{Some, None}
+use Rattle.lines.specs.Lines.{Number, has, first_of, is_digit, decimal_from, pick_number, is_padded, number_in, both, pair_in, starts}
 use Rattle.lines.proofs.LineLaw.{first_stop, first_more, digit_low, both_wrong}
 
 clash : false ≡ true → ⊥
@@ -47,25 +45,25 @@ has_append x (y ∷ s) t = ap (λ (b : Bool). eqb y x || b) (has_append x s t) �
     assoc false b c = refl
 
 -- ---- numbers
-test_wrong : (q : Bool) (n : Number) → n ≡ number.Wrong → elim q [ true ↦ n | false ↦ number.Wrong ] ≡ number.Wrong
+test_wrong : (q : Bool) (n : Number) → n ≡ None → elim q as (λ _. Number) [ true ↦ n | false ↦ None ] ≡ None
 test_wrong true n e = e
 test_wrong false n e = refl
 
-decimal_step : (a x : ℕ) (t : List ℕ) → decimal_from (10 * a + (x - 48)) t ≡ number.Wrong → decimal_from a (x ∷ t) ≡ number.Wrong
+decimal_step : (a x : ℕ) (t : List ℕ) → decimal_from (10 * a + (x - 48)) t ≡ None → decimal_from a (x ∷ t) ≡ None
 unfolding decimal_from
 decimal_step a x t e = test_wrong (is_digit x) (decimal_from (10 * a + (x - 48)) t) e
 
-decimal_return : (s : List ℕ) (a : ℕ) → has 13 s ≡ true → decimal_from a s ≡ number.Wrong
+decimal_return : (s : List ℕ) (a : ℕ) → has 13 s ≡ true → decimal_from a s ≡ None
 decimal_return [] a h = absurd (clash (sym (has_none 13) ∙ h))
 decimal_return (x ∷ t) a h =
     by_cases (ℕ_discrete x 13) (λ e. digit_low a x t (omega arith))
     (λ d. decimal_step a x t (decimal_return t (10 * a + (x - 48)) (sym (has_next 13 x t d) ∙ h)))
 
-pick_wrong : (b : Bool) (n : Number) → n ≡ number.Wrong → pick_number b number.Wrong n ≡ number.Wrong
+pick_wrong : (b : Bool) (n : Number) → n ≡ None → pick_number b None n ≡ None
 pick_wrong true n e = refl
 pick_wrong false n e = e
 
-pub number_return : (s : List ℕ) → has 13 s ≡ true → number_in s ≡ number.Wrong
+pub number_return : (s : List ℕ) → has 13 s ≡ true → number_in s ≡ None
 number_return s h =
     pick_wrong (ltb (length s) 1) _ (pick_wrong (ltb 5 (length s)) _ (pick_wrong (is_padded s) _ (decimal_return s 0 h)))
 
@@ -99,7 +97,7 @@ pair_is : (s : List ℕ) → pair_in s ≡ both (number_in (take (first_of 32 s)
 unfolding pair_in
 pair_is s = refl
 
-pub pair_return : (s : List ℕ) → has 13 s ≡ true → pair_in s ≡ pair.Wrong
+pub pair_return : (s : List ℕ) → has 13 s ≡ true → pair_in s ≡ None
 pair_return s h =
     pair_is s
     ∙ by_cases (Bool-discrete (has 13 (take k s)) true)

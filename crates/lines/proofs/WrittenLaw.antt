@@ -8,10 +8,8 @@ use lib.Dec.{eqb}
 use lib.ListN.{length, take, drop}
 use lib.Seq.{take-append_seam, drop-append-add}
 use borrow.Author.Tests.{eqb-false}
-use Rattle.lines.specs.declared.Number.{Number}
-use Rattle.lines.specs.declared.Number.TheVariants as number
-use Rattle.lines.specs.declared.Pair.TheVariants as pair
-use Rattle.lines.specs.Lines.{first_of, has, number_in, both, pair_in, grow, lines_of}
+use Rattle.std.specs.Prelude.{Some, None}
+use Rattle.lines.specs.Lines.{Number, first_of, has, number_in, both, pair_in, grow, lines_of}
 use Rattle.lines.proofs.LineLaw.{first_stop, first_more}
 use Rattle.lines.proofs.SplitLaw.{lines_feed, lines_byte}
 use Rattle.lines.proofs.ReturnLaw.{has_cons}
@@ -42,7 +40,7 @@ lines_written [] t h = lines_feed 10 t refl
 lines_written (x ∷ s) t h = lines_byte x (s ++ (10 ∷ t)) (other 10 x s h) ∙ ap (grow x) (lines_written s t (none 10 x s h))
 
 -- ---- two numbers
-pub pair_written : (s t : List ℕ) (a b : ℕ) → has 32 s ≡ false → number_in s ≡ number.Value a → number_in t ≡ number.Value b → pair_in (s ++ (32 ∷ t)) ≡ pair.Both a b
+pub pair_written : (s t : List ℕ) (a b : ℕ) → has 32 s ≡ false → number_in s ≡ Some a → number_in t ≡ Some b → pair_in (s ++ (32 ∷ t)) ≡ Some (a, b)
 unfolding pair_in
 pair_written s t a b h p q =
     ap (λ (k : ℕ). both (number_in (take k (s ++ (32 ∷ t)))) (number_in (drop (k + 1) (s ++ (32 ∷ t))))) (first_is 32 s t h)

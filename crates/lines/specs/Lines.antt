@@ -1,9 +1,13 @@
 -- The lines of a text and what stands in them, for any kind of file: a line is its bytes without the line feed.
-use Rattle.std.specs.Prelude.{Bool, true, false, ◌&&◌, ◌||◌, List, [], ◌∷◌, ℕ, suc, ◌+◌, ◌-◌, ◌*◌, eqb, ltb, leb, length, get_or, take, drop}
-use Rattle.lines.specs.declared.Number.{Number}
-use Rattle.lines.specs.declared.Number.TheVariants as number
-use Rattle.lines.specs.declared.Pair.{Pair}
-use Rattle.lines.specs.declared.Pair.TheVariants as pair
+use Rattle.std.specs.Prelude.{Bool, true, false, ◌&&◌, ◌||◌, List, [], ◌∷◌, ℕ, suc, ◌+◌, ◌-◌, ◌*◌, eqb, ltb, leb, length, get_or, take, drop, Option, Some, None}
+
+-- what the bytes of a number write
+abbrev pub Number : Type 0
+Number = Option ℕ
+
+-- what the bytes of two numbers with one space between them write
+abbrev pub Pair : Type 0
+Pair = Option (ℕ × ℕ)
 
 -- how many bytes stand before the first b: all of them where there is none
 unfoldable pub first_of : ℕ → List ℕ → ℕ
@@ -21,8 +25,8 @@ is_digit x = leb 48 x && leb x 57
 
 -- the number that digits write after those that wrote a
 unfoldable pub decimal_from : ℕ → List ℕ → Number
-decimal_from a [] = number.Value a
-decimal_from a (x ∷ t) = elim (is_digit x) [ true ↦ decimal_from (10 * a + (x - 48)) t | false ↦ number.Wrong ]
+decimal_from a [] = Some a
+decimal_from a (x ∷ t) = elim (is_digit x) [ true ↦ decimal_from (10 * a + (x - 48)) t | false ↦ None ]
 
 abbrev pub pick_number : Bool → Number → Number → Number
 pick_number true x y = x
@@ -35,14 +39,14 @@ is_padded s = ltb 1 (length s) && eqb (get_or s 0 0) 48
 -- a number: 1 to 5 digits without leading zeros
 abbrev pub number_in : List ℕ → Number
 number_in s =
-    pick_number (ltb (length s) 1) number.Wrong
-    (pick_number (ltb 5 (length s)) number.Wrong
-    (pick_number (is_padded s) number.Wrong (decimal_from 0 s)))
+    pick_number (ltb (length s) 1) None
+    (pick_number (ltb 5 (length s)) None
+    (pick_number (is_padded s) None (decimal_from 0 s)))
 
 abbrev pub both : Number → Number → Pair
-both (number.Value a) (number.Value b) = pair.Both a b
-both (number.Value a) number.Wrong = pair.Wrong
-both number.Wrong y = pair.Wrong
+both (Some a) (Some b) = Some (a, b)
+both (Some a) None = None
+both None y = None
 
 -- two numbers with one space between them
 unfoldable pub pair_in : List ℕ → Pair

@@ -20,16 +20,6 @@ use Rattle.trits.proofs.HoldLaw.{holds_ext, holds_add, holds_negate}
 use Rattle.listed.specs.Lists.{Lists, Rising, ones}
 
 -- ---- listing
-pub none_listed : (x : ℕ → ℕ) (at turn : List ℕ) → get_or at 0 0 ≡ 0 → Lists 0 x at turn 0
-none_listed x at turn e = record {
-  first = λ k l. absurd (omega arith);
-  step = λ t l. absurd (omega arith);
-  gap = λ t l k a b. absurd (omega arith);
-  last = e;
-  digit = λ t l. absurd (omega arith);
-  mask = λ t l. absurd (omega arith);
-}
-
 -- every listed unknown is below n
 module _ (n : ℕ) (x : ℕ → ℕ) (at turn : List ℕ) (c : ℕ) (g : Lists n x at turn c) where
   below : (i t : ℕ) → t + suc i ≡ c → get_or at t 0 < n

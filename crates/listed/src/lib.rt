@@ -32,16 +32,13 @@ pub fn nonzero_into(
     requires { (n ≤ most_unknowns) × (length at.old ≡ 21) × (length turn.old ≡ most_unknowns) }
     ensures { Lists n (λ k. get_or x.now k 0 % 3) at.new turn.new result × (result ≤ n) }
 {
-    let all: u64 = 0xffff_ffff_ffff_ffff;
     at[0] = 0;
-    let mut count: usize = 0;
-    let mut k: usize = 0;
-    while k < n {
+    let mut count = 0;
+    for k in 0..n {
         let d = x[k] % 3;
-        turn[count] = d / 2 * all;
+        turn[count] = d / 2 * u64::MAX;
         count += ((d + 1) / 2) as usize;
         at[count] = k + 1;
-        k += 1;
     }
     count
 }
@@ -85,12 +82,8 @@ pub fn row(
         → Holds m (λ e. s e + sum (n - i) (λ d. h e (i + d) * x (i + d))) result }
 {
     let mut v = seed;
-    let mut t = from;
-    while t < count {
-        let k = at[t];
-        let w = turned(vector(table, base + k), turn[t]);
-        v = add(v, w);
-        t += 1;
+    for t in from..count {
+        v = add(v, turned(vector(table, base + at[t]), turn[t]));
     }
     v
 }

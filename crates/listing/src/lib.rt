@@ -1,4 +1,5 @@
 // The lines of a listing, put into a text that is lent: each function answers where the next byte goes. Contracts cite specs/Listing.
+// Piece by piece: which bytes stand in a slice after the library's `write!` to it, no contract of that says.
 #![tactic(auto)]
 
 ghost use Rattle.std.specs.Prelude.{◌≡◌, ◌+◌, ◌*◌, ◌≤◌, ◌<◌, length};
@@ -14,14 +15,12 @@ fn put_digits(text: &mut [u8], at: usize, n: u64, x: u64) -> usize
     ensures { Put text.old at (digits_of n x) text.new result × (result ≤ at + 20) }
 {
     let end = at + n as usize;
-    let mut next = at;
     let mut rest = x;
-    while next < end {
+    for next in at..end {
         text[next] = glyph(rest % 3);
-        rest = rest / 3;
-        next += 1;
+        rest /= 3;
     }
-    next
+    end
 }
 
 // The line of a layout: at most 63 bytes.
@@ -43,11 +42,9 @@ pub fn put_layouts(text: &mut [u8], n: u64, points: &[u64]) -> usize
     requires { (n ≤ 20) × (longest_layout * length points.now ≤ length text.old) }
     ensures { Put text.old 0 (layout_lines n points.now) text.new result × (result ≤ longest_layout * length points.now) }
 {
-    let mut next: usize = 0;
-    let mut i: usize = 0;
-    while i < points.len() {
-        next = put_layout(text, next, n, points[i]);
-        i += 1;
+    let mut next = 0;
+    for point in points {
+        next = put_layout(text, next, n, *point);
     }
     next
 }

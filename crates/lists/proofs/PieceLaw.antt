@@ -1,4 +1,5 @@
 -- The loop over pieces: what was done is always the front of the whole call, and what is left makes up the rest.
+use Rattle.std.specs.Prelude.{Ok}
 use mathlib.Core.Bool.{true}
 use mathlib.Core.Path.{◌≡◌, refl, sym, ap, ap₂, subst, ◌∙◌}
 use mathlib.Core.Logic.{⊎_elim, inl, inr, ◌⊎◌}
@@ -16,7 +17,6 @@ use Rattle.codec.proofs.CodecLaw.{paste_paste, paste_none, from_append, from_nil
 use Rattle.given.specs.Given.{Given, Checked}
 use Rattle.given.proofs.TableLaw.{power_small}
 use Rattle.opening.specs.declared.Record.{Record}
-use Rattle.outcomes.specs.declared.Answer.TheVariants.{Ran}
 use Rattle.outcomes.specs.declared.Outcome.{Outcome}
 use Rattle.opening.specs.Opened.{opened_at}
 use Rattle.outcomes.specs.Search.{trail_behind, fits, ran_of}
@@ -82,7 +82,7 @@ module _ (g : Given) (r : Record) (budget : ℕ) (l₀ : List ℕ) where
 
     -- ---- nothing is left to do: this is the whole call
     pub closed : (st : Stop) → st ≡ stop_from s.place.0 (3 ^ g.n) at room → (s.place.0 ≡ 3 ^ g.n) ⊎ (left ≡ 0) ⊎ (room - at ≡ 0)
-        → (◌≡◌ {A = Outcome} (record { answer = Ran (record { stop = st; points = k; additions = additions; found = at }); «record» = s }) (ran_of g p budget room))
+        → (◌≡◌ {A = Outcome} (record { answer = Ok (record { stop = st; points = k; additions = additions; found = at }); «record» = s }) (ran_of g p budget room))
         × (l ≡ pasted l₀ 0 (bytes_from (found_in g p budget room)))
     unfolding trail_behind
     closed st es o =
@@ -95,7 +95,7 @@ module _ (g : Given) (r : Record) (budget : ℕ) (l₀ : List ℕ) where
         let a : ◌≡◌ {A = Report} (record { stop = st; points = k; additions = additions; found = at }) (report_in T room p k) =
         λ j. record { stop = i j; points = k; additions = h.sum j; found = h.used j }
         in (
-          ap₂ (λ (x : Report) (y : Record). record { answer = Ran x; «record» = y }) (a ∙ w) (h.here ∙ ap (λ (x : ℕ). opened_at g (p + x)) (sym e)),
+          ap₂ (λ (x : Report) (y : Record). record { answer = Ok x; «record» = y }) (a ∙ w) (h.here ∙ ap (λ (x : ℕ). opened_at g (p + x)) (sym e)),
           h.list ∙ ap (λ (x : ℕ). pasted l₀ 0 (bytes_from (zeros_in T p x))) (sym e),
         )
 

@@ -15,46 +15,28 @@ ghost use Rattle.lists.specs.Pieces.{did_of, GoesOn};
 
 use given::Degree;
 use opening::{First, Record};
-use outcomes::{Answer, Moved, Outcome};
-use refusals::{PIECE_ENTRIES, Verdict};
+use outcomes::{Moved, Outcome};
+use refusals::{PIECE_ENTRIES, Refusal};
 use search::{first_for, joined, lent_words};
 use walks::{Report, Stop};
 
-fn lesser(a: usize, b: usize) -> usize
-    ensures { result ≡ min a b }
-{
-    if a < b { a } else { b }
-}
-
 // What a call did; where it was refused, nothing.
-fn did(a: Answer) -> Report
+fn did(a: Result<Report, Refusal>) -> Report
     ensures { result ≡ did_of a }
 {
-    match a {
-        Answer::Ran(r) => r,
-        Answer::Refused(_) => Report {
-            stop: Stop::Ended,
-            points: 0,
-            additions: 0,
-            found: 0,
-        },
-    }
+    a.unwrap_or(Report {
+        stop: Stop::Ended,
+        points: 0,
+        additions: 0,
+        found: 0,
+    })
 }
 
 // Whether there is a next piece: places, budget and room are left.
 fn goes_on(place: u64, end: u64, left: u64, room: usize) -> bool
     ensures { GoesOn place end left room result }
 {
-    if place == end {
-        return false;
-    }
-    if left == 0 {
-        return false;
-    }
-    if room == 0 {
-        return false;
-    }
-    true
+    place != end && left > 0 && room > 0
 }
 
 // One piece: its points go by way of the words into the list, from word number `at` on.
@@ -75,11 +57,9 @@ fn part(
         × (list.new ≡ pasted list.old (8 * at) (bytes_from (found_in (table_with degree n m table.now) f.place.0 left (min (length words.old) (length list.old / 8 - at))))) }
 {
     let room = list.len() / 8 - at;
-    let c = lesser(words.len(), room);
+    let c = words.len().min(room);
     let o = reporting::ran(degree, n, m, table, f, seconds, left, &mut words[..c]);
-    let answer = o.answer;
-    let this = did(answer);
-    let k = this.found as usize;
+    let k = did(o.answer).found as usize;
     codec::encode(&words[..k], list, at);
     o
 }
@@ -108,8 +88,7 @@ fn filled(
     let mut additions: u64 = 0;
     loop {
         let o = part(degree, n, m, table, s, seconds, left, words, list, at);
-        let answer = o.answer;
-        let this = did(answer);
+        let this = did(o.answer);
         s = o.first;
         at += this.found as usize;
         left -= this.points;
@@ -119,7 +98,7 @@ fn filled(
             let stop = outcomes::stop_of(place, end, at, len);
             let points = budget - left;
             return Moved {
-                answer: Answer::Ran(Report {
+                answer: Ok(Report {
                     stop,
                     points,
                     additions,
@@ -146,13 +125,14 @@ pub fn search_parts(
     ensures { (outcome_with degree result seconds.new ≡ outcome_in (table_with degree n m table.now) (whole_of degree f seconds.old) budget list.old)
         × (list.new ≡ list_in (table_with degree n m table.now) (whole_of degree f seconds.old) budget list.old) }
 {
+    // A refusal goes with the record as it was, and so not by `?`.
     let verdict = judging::judged(degree, n, m, table, f, seconds, budget, list.len() / 8);
     match verdict {
-        Verdict::Refused(x) => Moved {
-            answer: Answer::Refused(x),
+        Err(x) => Moved {
+            answer: Err(x),
             first: f,
         },
-        Verdict::Done => {
+        Ok(()) => {
             let mut words = [0u64; PIECE_ENTRIES];
             filled(degree, n, m, table, f, seconds, budget, &mut words, list)
         }

@@ -46,12 +46,10 @@ pub fn raise(slot: Vector, value: Vector, t: Vector, additions: u64) -> Moved
     ensures { (result.slot ≡ add_of slot t) × (result.value ≡ add_of value (add_of slot t)) × (result.additions ≡ additions + 1 + 1) }
 {
     let s = plus(slot, t, additions);
-    let up = s.vector;
-    let v = plus(value, up, s.additions);
-    let next = v.vector;
+    let v = plus(value, s.vector, s.additions);
     Moved {
-        slot: up,
-        value: next,
+        slot: s.vector,
+        value: v.vector,
         additions: v.additions,
     }
 }
@@ -112,12 +110,8 @@ pub fn points(n: usize, list: &mut [u64], place: u64, from: usize, to: usize)
     let top = place / 27;
     let first = gray::point_at((n - 3) as u64, Place(top));
     let high = 27 * first.0;
-    let mut i = from;
-    while i < to {
-        let at = list[i];
-        let point = point_near(n, at, top, high);
-        list[i] = point;
-        i += 1;
+    for i in from..to {
+        list[i] = point_near(n, list[i], top, high);
     }
 }
 
@@ -146,15 +140,13 @@ pub fn head(
     }
     if rest == 1 {
         let v = plus(value, slot, additions);
-        let next = v.vector;
         return Moved {
             slot,
-            value: next,
+            value: v.vector,
             additions: v.additions,
         };
     }
     let f = positions::split(rest - 1);
-    let c = b + f.position;
-    let t = tables::entry(table, n, b, c);
+    let t = tables::entry(table, n, b, b + f.position);
     raise(slot, value, t, additions)
 }

@@ -1,6 +1,6 @@
 -- What the conversions into lent words give: document 01's number, and the words after, which a refusal leaves as they were.
 use Rattle.std.specs.Prelude.{List, [], ◌∷◌, ℕ, ℤ, length}
-use Rattle.refusals.specs.declared.Verdict.{Verdict}
+use Rattle.refusals.specs.Refusal.{Verdict}
 use Rattle.refusals.specs.Refusal.{after}
 use Rattle.gray.specs.Numbers.{point_of, place_of}
 use Rattle.gray.specs.Answers.{convert_verdict}

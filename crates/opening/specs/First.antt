@@ -26,3 +26,7 @@ first_of r = record { n = r.n; m = r.m; place = r.place; value = r.value; slots 
 
 abbrev pub whole_of : Degree → First → List ℕ → Record
 whole_of d f s = record { n = f.n; m = f.m; place = f.place; value = f.value; slots = f.slots; seconds = seconds_from d s }
+
+-- a first part with second slots
+abbrev pub with_seconds : First → List ℕ → Record
+with_seconds f s = record { n = f.n; m = f.m; place = f.place; value = f.value; slots = f.slots; seconds = s }

@@ -1,15 +1,12 @@
 -- The walk record of a table at a place: what given/specs/Slots says of it, and what opening answers.
-use Rattle.std.specs.Prelude.{ℕ, ◌-◌, ◌^◌, ltb, replicate}
+use Rattle.std.specs.Prelude.{ℕ, ◌-◌, ◌^◌, ltb, replicate, Ok, Err, Result}
 use Rattle.refusals.specs.declared.Refusal.{Refusal}
 use Rattle.refusals.specs.declared.Refusal.TheVariants.{Range}
-use Rattle.refusals.specs.declared.Verdict.{Verdict}
-use Rattle.refusals.specs.declared.Verdict.TheVariants.{Done, Refused}
-use Rattle.refusals.specs.Refusal.{refuse, after}
+use Rattle.refusals.specs.Refusal.{Verdict, number_of, refuse, done}
 use Rattle.trits.specs.Trit.{none}
 use Rattle.given.specs.Given.{Given, table_verdict}
 use Rattle.given.specs.Slots.{value_at, slots_at, seconds_at}
 use Rattle.opening.specs.declared.Record.{Record}
-use Rattle.opening.specs.declared.Opened.{Opened}
 
 -- the record at place p; with q as document 01 has it, p - 1 or 0 when p is 0
 unfoldable pub opened_at : Given → ℕ → Record
@@ -20,13 +17,30 @@ opened_at g p =
 abbrev pub no_record : Record
 no_record = record { n = 0; m = 0; place = record { 0 = 0 }; value = none; slots = replicate 20 none; seconds = replicate 420 0 }
 
--- a refusal, which gives its number alone
+-- what opening says: the record, or why it refuses
+abbrev pub Opened : Type 0
+Opened = Result Record Refusal
+
 abbrev pub refused_open : Refusal → Opened
-refused_open f = record { verdict = Refused f; «record» = no_record }
+refused_open f = Err f
+
+-- the answer that goes with a verdict
+abbrev pub opened_by : Verdict → Record → Opened
+opened_by (Ok _) r = Ok r
+opened_by (Err f) r = Err f
 
 -- what opening answers
 abbrev pub open_verdict : Given → ℕ → Verdict
-open_verdict g p = table_verdict g (refuse (ltb (3 ^ g.n) p) Range Done)
+open_verdict g p = table_verdict g (refuse (ltb (3 ^ g.n) p) Range done)
 
 abbrev pub open_of : Given → ℕ → Opened
-open_of g p = record { verdict = open_verdict g p; «record» = after (open_verdict g p) no_record (opened_at g p) }
+open_of g p = opened_by (open_verdict g p) (opened_at g p)
+
+-- document 01's number for an answer, and its record: the one of zeros with a refusal
+abbrev pub opened_code : Opened → ℕ
+opened_code (Ok r) = 0
+opened_code (Err f) = number_of f
+
+abbrev pub record_of : Opened → Record
+record_of (Ok r) = r
+record_of (Err f) = no_record

@@ -3,13 +3,14 @@
 #![tactic(auto)]
 
 ghost use Rattle.std.specs.Prelude.{◌≡◌};
-ghost use Rattle.opening.specs.Opened.{open_verdict, open_of, refused_open, no_record};
+ghost use Rattle.opening.specs.First.{first_of, with_seconds};
+ghost use Rattle.opening.specs.Opened.{open_verdict, open_of, opened_code};
 ghost use Rattle.refusals.specs.Refusal.{code_of};
-ghost use Rattle.given.specs.Given.{table_with, Checked};
+ghost use Rattle.given.specs.Given.{table_with};
 
 use given::Degree;
 use gray::Place;
-use refusals::{MOST_UNKNOWNS, Refusal, SECOND_WORDS, Verdict};
+use refusals::{MOST_UNKNOWNS, Refusal, SECOND_WORDS};
 use trits::Vector;
 
 mod parts;
@@ -18,7 +19,7 @@ pub use parts::{first_two, record_at};
 
 // The walk of one table, between two calls. Slots from n to 19 are zero, and so are the second slots that the system does not have:
 // second slot (b, c), b not above c, is two words, high then low, at the number of the pair among those of 20 unknowns.
-#[derive(Clone, Copy)]
+#[derive(Clone, Copy, PartialEq, Eq)]
 pub struct Record {
     pub n: u64,
     pub m: u64,
@@ -29,7 +30,7 @@ pub struct Record {
 }
 
 // A record without its second slots: they stand apart, or where the table is of degree 2 nowhere, all of them being zero.
-#[derive(Clone, Copy)]
+#[derive(Clone, Copy, PartialEq, Eq)]
 pub struct First {
     pub n: u64,
     pub m: u64,
@@ -38,61 +39,45 @@ pub struct First {
     pub slots: [Vector; MOST_UNKNOWNS],
 }
 
-// What opening gives: with a refusal the record is the one of zeros.
-#[derive(Drop)]
-pub struct Opened {
-    pub verdict: Verdict,
-    pub record: Record,
+impl Record {
+    // All of it but the second slots.
+    pub fn first(&self) -> First
+        ensures { result ≡ first_of self.now }
+    {
+        First {
+            n: self.n,
+            m: self.m,
+            place: self.place,
+            value: self.value,
+            slots: self.slots,
+        }
+    }
+}
+
+impl First {
+    // The record with these second slots.
+    pub fn with(&self, seconds: [u64; SECOND_WORDS]) -> Record
+        ensures { result ≡ with_seconds self.now seconds }
+    {
+        Record {
+            n: self.n,
+            m: self.m,
+            place: self.place,
+            value: self.value,
+            slots: self.slots,
+            seconds,
+        }
+    }
 }
 
 // The record of a table at any place 0 to 3^n.
-pub fn open(degree: Degree, n: u64, m: u64, table: &[u64], place: Place) -> Opened
+pub fn open(degree: Degree, n: u64, m: u64, table: &[u64], place: Place) -> Result<Record, Refusal>
     ensures value { result ≡ open_of (table_with degree n m table.now) place.0 }
-    ensures number { code_of result.verdict ≡ code_of (open_verdict (table_with degree n m table.now) place.0) }
+    ensures number { opened_code result ≡ code_of (open_verdict (table_with degree n m table.now) place.0) }
 {
-    let verdict = given::check(degree, n, m, table);
-    match verdict {
-        Verdict::Refused(f) => refused(f),
-        Verdict::Done => open_checked(degree, n, m, table, place.0),
+    given::check(degree, n, m, table)?;
+    if place.0 > positions::power(n) {
+        return Err(Refusal::Range);
     }
-}
-
-// The table was checked: the place is left to judge.
-fn open_checked(degree: Degree, n: u64, m: u64, table: &[u64], at: u64) -> Opened
-    requires { Checked (table_with degree n m table.now) }
-    ensures { result ≡ open_of (table_with degree n m table.now) at }
-{
-    if at > positions::power(n) {
-        return refused(Refusal::Range);
-    }
-    let record = record_at(degree, n, m, table, at);
-    Opened {
-        verdict: Verdict::Done,
-        record,
-    }
-}
-
-// A refusal, with the record of zeros.
-fn refused(f: Refusal) -> Opened
-    ensures { result ≡ refused_open f }
-{
-    Opened {
-        verdict: Verdict::Refused(f),
-        record: no_record(),
-    }
-}
-
-// The record of zeros, which goes with a refusal.
-fn no_record() -> Record
-    ensures { result ≡ no_record }
-{
-    let none = Vector { high: 0, low: 0 };
-    Record {
-        n: 0,
-        m: 0,
-        place: Place(0),
-        value: none,
-        slots: [none; MOST_UNKNOWNS],
-        seconds: [0; SECOND_WORDS],
-    }
+    Ok(record_at(degree, n, m, table, place.0))
 }

@@ -19,13 +19,6 @@ use gray::Place;
 use refusals::{MOST_UNKNOWNS, MOST_WORDS, SECOND_WORDS};
 use trits::Vector;
 
-// The unknown before b, or 0 at the first.
-fn one_before(b: usize) -> usize
-    ensures { result ≡ b - 1 }
-{
-    if b == 0 { 0 } else { b - 1 }
-}
-
 // The number of the latest move in a row of moves of which x were due: one less than x, or two where that is a multiple of 3.
 fn last_move(x: u64) -> u64
     ensures { result ≡ last_of 3 x }
@@ -52,7 +45,7 @@ fn slope_term(c: &[u64], n: usize, b: usize, i: usize, t: u64) -> Vector
     ensures { (m : ℕ) → Table n m c.now → Holds m (λ e. slope (poly_at n c.now e) b i * t) result }
 {
     if t == 0 {
-        return Vector { high: 0, low: 0 };
+        return Vector::ZERO;
     }
     if i < b {
         let v = tables::entry(c, n, i, b);
@@ -74,12 +67,9 @@ fn change(c: &[u64], n: usize, b: usize, x: [u64; MOST_UNKNOWNS]) -> Vector
     let one = tables::vector(c, 1 + b);
     let square = tables::entry(c, n, b, b);
     let mut v = trits::add(one, square);
-    let mut i = one_before(b);
-    while i < n {
-        let t = x[i];
-        let s = slope_term(c, n, b, i, t);
+    for i in b.saturating_sub(1)..n {
+        let s = slope_term(c, n, b, i, x[i]);
         v = trits::add(v, s);
-        i += 1;
     }
     v
 }
@@ -89,19 +79,15 @@ fn slots(c: &[u64], n: usize, q: u64) -> [Vector; MOST_UNKNOWNS]
     requires { (n ≤ most_unknowns) × (q < 2 ^ 32) × (length c.now ≡ 2 * count_of n) }
     ensures { Slots n c.now q result }
 {
-    let mut s = [Vector { high: 0, low: 0 }; MOST_UNKNOWNS];
+    let mut s = [Vector::ZERO; MOST_UNKNOWNS];
     let mut power: u64 = 1;
     let mut lower: u64 = 1;
-    let mut b: usize = 0;
-    while b < n {
+    for b in 0..n {
         let w = before_move(q, power);
-        let from = one_before(b);
-        let x = gray::digits_at(n, from, lower, Place(w));
-        let v = change(c, n, b, x);
-        s[b] = v;
+        let x = gray::digits_at(n, b.saturating_sub(1), lower, Place(w));
+        s[b] = change(c, n, b, x);
         lower = power;
-        power = power * 3;
-        b += 1;
+        power *= 3;
     }
     s
 }
@@ -110,7 +96,7 @@ fn slots(c: &[u64], n: usize, q: u64) -> [Vector; MOST_UNKNOWNS]
 fn latest_place(p: u64) -> u64
     ensures { result ≡ p - 1 }
 {
-    if p == 0 { 0 } else { p - 1 }
+    p.saturating_sub(1)
 }
 
 // The first part of the record of a checked table of degree 2 at a place; c is room for its coefficients.
@@ -148,17 +134,7 @@ fn record_two(n: u64, m: u64, table: &[u64], place: u64) -> Record
     requires { Checked (quadratic n m table.now) × (place ≤ 3 ^ n) }
     ensures { result ≡ opened_at (quadratic n m table.now) place }
 {
-    let f = first_two(n, m, table, place);
-    let value = f.value;
-    let slots = f.slots;
-    Record {
-        n: f.n,
-        m: f.m,
-        place: Place(f.place.0),
-        value,
-        slots,
-        seconds: [0; SECOND_WORDS],
-    }
+    first_two(n, m, table, place).with([0; SECOND_WORDS])
 }
 
 // The record of a checked table of degree 3 at a place.
@@ -168,14 +144,13 @@ fn record_three(n: u64, m: u64, table: &[u64], place: u64) -> Record
 {
     let q = latest_place(place);
     let h = cubic_opening::stood_at(table, n as usize, q);
-    let value = h.value;
     let slots = h.slots;
     let seconds = h.seconds;
     Record {
         n,
         m,
         place: Place(place),
-        value,
+        value: h.value,
         slots,
         seconds,
     }

@@ -1,9 +1,9 @@
 -- What the operations on tables of either degree answer and leave, by the degree that is told.
 use Rattle.std.specs.Prelude.{List, ℕ, ℤ}
-use Rattle.refusals.specs.declared.Verdict.{Verdict}
+use Rattle.refusals.specs.Refusal.{Verdict}
 use Rattle.trits.specs.declared.Vector.{Vector}
 use Rattle.tables.specs.Words.{values_at}
-use Rattle.tables.specs.declared.Evaluated.{Evaluated}
+use Rattle.tables.specs.Answers.{Evaluated}
 use Rattle.tables.specs.Answers.{pack_verdict, pack_after, copy_verdict, differences_after, coefficients_after, evaluate_verdict, valued, TellsOf}
 use Rattle.cubic_tables.specs.Words.{cubic_values}
 use Rattle.cubic_tables.specs.Answers.{cubic_pack_verdict, cubic_pack_after, cubic_copy, cubic_differences_after, cubic_coefficients_after, cubic_evaluate_verdict}

@@ -6,19 +6,20 @@ ghost use Rattle.std.specs.Prelude.{◌≡◌};
 ghost use Rattle.refusals.specs.Refusal.{code_of};
 ghost use Rattle.operations.specs.Operations.{packing, packed_into, copying, differences_into, coefficients_into, evaluated_in, TellsIn};
 
+use checks::Quadratic;
 use given::Degree;
 use gray::Point;
-use refusals::Verdict;
-use tables::Evaluated;
+use refusals::Refusal;
+use trits::Vector;
 
 // Signed rows into a table of words.
-pub fn pack(degree: Degree, n: u64, m: u64, rows: &[i8], table: &mut [u64]) -> Verdict
+pub fn pack(degree: Degree, n: u64, m: u64, rows: &[i8], table: &mut [u64]) -> Result<(), Refusal>
     ensures answer { result ≡ packing degree n m rows.now table.old }
     ensures left { table.new ≡ packed_into degree n m rows.now table.old }
     ensures number { code_of result ≡ code_of (packing degree n m rows.now table.old) }
 {
     match degree {
-        Degree::Two => rows::pack(n, m, rows, table),
+        Degree::Two => rows::pack::<Quadratic>(n, m, rows, table),
         Degree::Three => cubic_rows::pack(n, m, rows, table),
     }
 }
@@ -30,7 +31,7 @@ pub fn differences(
     m: u64,
     coefficients: &[u64],
     table: &mut [u64],
-) -> Verdict
+) -> Result<(), Refusal>
     ensures answer { result ≡ copying degree n m coefficients.now table.old }
     ensures left { table.new ≡ differences_into degree n m coefficients.now table.old }
     ensures number { code_of result ≡ code_of (copying degree n m coefficients.now table.old) }
@@ -48,7 +49,7 @@ pub fn coefficients(
     m: u64,
     table: &[u64],
     coefficients: &mut [u64],
-) -> Verdict
+) -> Result<(), Refusal>
     ensures answer { result ≡ copying degree n m table.now coefficients.old }
     ensures left { coefficients.new ≡ coefficients_into degree n m table.now coefficients.old }
     ensures number { code_of result ≡ code_of (copying degree n m table.now coefficients.old) }
@@ -60,7 +61,13 @@ pub fn coefficients(
 }
 
 // The value of each equation at a point.
-pub fn evaluate(degree: Degree, n: u64, m: u64, coefficients: &[u64], x: Point) -> Evaluated
+pub fn evaluate(
+    degree: Degree,
+    n: u64,
+    m: u64,
+    coefficients: &[u64],
+    x: Point,
+) -> Result<Vector, Refusal>
     ensures { (result ≡ evaluated_in degree n m coefficients.now x.0) × TellsIn degree n m coefficients.now x.0 result }
 {
     match degree {

@@ -1,4 +1,5 @@
 -- A record in two parts is refused as the whole is, and where it is not refused it is the whole.
+use Rattle.std.specs.Prelude.{Ok, Err}
 use mathlib.Core.Path.{◌≡◌, refl, sym, ap, ap₂, ◌∙◌}
 use mathlib.Core.Bool.{Bool, true, false, ◌&&◌, false≢true}
 use mathlib.Core.Logic.{◌⊎◌, inl, inr, ⊎_elim}
@@ -10,8 +11,7 @@ use lib.Seq.{take_all}
 use borrow.Author.Tests.{le-leb}
 use Rattle.refusals.specs.Choice.{pick}
 use Rattle.refusals.specs.declared.Refusal.{Refusal}
-use Rattle.refusals.specs.declared.Verdict.{Verdict}
-use Rattle.refusals.specs.declared.Verdict.TheVariants as verdict
+use Rattle.refusals.specs.Refusal.{Verdict, done}
 use Rattle.walks.specs.declared.Report.{Report}
 use Rattle.walks.specs.Calls.{report_of}
 use Rattle.given.specs.declared.Degree.{Degree}
@@ -23,8 +23,7 @@ use Rattle.opening.specs.declared.First.{First}
 use Rattle.opening.specs.declared.Record.{Record}
 use Rattle.opening.specs.Opened.{opened_at}
 use Rattle.opening.specs.First.{all_zero, lent_words, seconds_from, whole_of}
-use Rattle.outcomes.specs.declared.Answer.{Answer}
-use Rattle.outcomes.specs.declared.Answer.TheVariants as answer
+use Rattle.outcomes.specs.Search.{Answer}
 use Rattle.outcomes.specs.declared.Moved.{Moved}
 use Rattle.outcomes.specs.declared.Outcome.{Outcome}
 use Rattle.outcomes.specs.Search.{trail_behind, same_record, fits, room_verdict, search_verdict, ran_of, outcome_from, outcome_of, list_left}
@@ -39,11 +38,11 @@ refuted true f = absurd (f refl)
 refuted false f = refl
 
 -- what is put together, by the answer
-pub joined_refused : (a : Answer) (f : First) (r : Record) (s : List ℕ) (x : Refusal) → a ≡ answer.Refused x → record { answer = a; «record» = r } ≡ joined_of a f r s
+pub joined_refused : (a : Answer) (f : First) (r : Record) (s : List ℕ) (x : Refusal) → a ≡ Err x → record { answer = a; «record» = r } ≡ joined_of a f r s
 unfolding joined_of
 joined_refused a f r s x e = ap (λ (y : Answer). record { answer = y; «record» = r }) e ∙ sym (ap (λ (y : Answer). joined_of y f r s) e)
 
-pub joined_ran : (a : Answer) (f : First) (r : Record) (s : List ℕ) (x : Report) → a ≡ answer.Ran x
+pub joined_ran : (a : Answer) (f : First) (r : Record) (s : List ℕ) (x : Report) → a ≡ Ok x
     → record { answer = a; «record» = record { n = f.n; m = f.m; place = f.place; value = f.value; slots = f.slots; seconds = s } } ≡ joined_of a f r s
 unfolding joined_of
 joined_ran a f r s x e =
@@ -113,17 +112,17 @@ module _ (d : Degree) (n m : ℕ) (t : List ℕ) (r : Record) (long : length r.s
   same ok = parts_same d n m t r long (within g ok).least s lent
 
   -- ---- the same verdict
-  by_verdict : (b c : ℕ) (v : Verdict) → table_verdict g verdict.Done ≡ v → room_verdict g w b c ≡ room_verdict g r b c
-  by_verdict b c (verdict.Refused f) e = sym (by_table g w b c f e) ∙ by_table g r b c f e
-  by_verdict b c verdict.Done e =
+  by_verdict : (b c : ℕ) (v : Verdict) → table_verdict g done ≡ v → room_verdict g w b c ≡ room_verdict g r b c
+  by_verdict b c (Err f) e = sym (by_table g w b c f e) ∙ by_table g r b c f e
+  by_verdict b c (Ok _) e =
       ⊎_elim (λ i. ap (λ (x : Record). room_verdict g x b c) i)
       (λ f. sym (by_record g w b c e f.0) ∙ by_record g r b c e f.1) (same e)
 
   pub parts_verdict : (b c : ℕ) → room_verdict g w b c ≡ room_verdict g r b c
-  parts_verdict b c = by_verdict b c (table_verdict g verdict.Done) refl
+  parts_verdict b c = by_verdict b c (table_verdict g done) refl
 
   -- ---- where nothing is refused, the same record
-  pub parts_whole : (b c : ℕ) → room_verdict g r b c ≡ verdict.Done → w ≡ r
+  pub parts_whole : (b c : ℕ) → room_verdict g r b c ≡ done → w ≡ r
   parts_whole b c e =
       let p = passed g w b c (parts_verdict b c ∙ e) in
       ⊎_elim (λ i. i) (λ f. absurd (false≢true (sym f.0 ∙ p.own))) (same p.checked)
@@ -133,15 +132,15 @@ module _ (d : Degree) (n m : ℕ) (t : List ℕ) (r : Record) (long : length r.s
 
   -- ---- a call on the parts, put together again
   module _ (b : ℕ) (l : List ℕ) (o : Moved) (k s' : List ℕ) (eo : outcome_with d o s' ≡ outcome_of g w b l) (ek : k ≡ list_left g w b l) where
-    parts_refused : (f : Refusal) → search_verdict g r b l ≡ verdict.Refused f → (x : List ℕ) → (joined_of o.answer o.first r x ≡ outcome_of g r b l) × (k ≡ list_left g r b l)
+    parts_refused : (f : Refusal) → search_verdict g r b l ≡ Err f → (x : List ℕ) → (joined_of o.answer o.first r x ≡ outcome_of g r b l) × (k ≡ list_left g r b l)
     unfolding joined_of
     parts_refused f e x =
         let i = away g w b l f (parts_verdict b (length l) ∙ e) in
         let j = away g r b l f e in
-        let a : o.answer ≡ answer.Refused f = ap (λ (y : Outcome). y.answer) (eo ∙ sym i.0) in
+        let a : o.answer ≡ Err f = ap (λ (y : Outcome). y.answer) (eo ∙ sym i.0) in
         (ap (λ (y : Answer). joined_of y o.first r x) a ∙ j.0, ek ∙ sym i.1 ∙ j.1)
 
-    parts_done : search_verdict g r b l ≡ verdict.Done → length s' ≡ lent_words d
+    parts_done : search_verdict g r b l ≡ done → length s' ≡ lent_words d
         → (joined_of o.answer o.first r (s' ++ drop (lent_words d) r.seconds) ≡ outcome_of g r b l) × (k ≡ list_left g r b l)
     unfolding joined_of
     parts_done e kept =
@@ -150,9 +149,9 @@ module _ (d : Degree) (n m : ℕ) (t : List ℕ) (r : Record) (long : length r.s
         let x = s' ++ drop (lent_words d) r.seconds in
         let es : x ≡ seconds_from d s' = seconds_left d s' r.seconds kept long (sym lent ∙ ap (λ (y : Record). y.seconds) i) in
         let u = report_of (trail_behind g) b (length l) r.place.0 in
-        let a : o.answer ≡ answer.Ran u = ap (λ (y : Outcome). y.answer) (eo' ∙ ap (λ (v : Verdict). outcome_from v r (ran_of g r.place.0 b (length l))) e) in (
+        let a : o.answer ≡ Ok u = ap (λ (y : Outcome). y.answer) (eo' ∙ ap (λ (v : Verdict). outcome_from v r (ran_of g r.place.0 b (length l))) e) in (
           ap (λ (y : Answer). joined_of y o.first r x) a
-              ∙ ap (λ (y : List ℕ). joined_of (answer.Ran u) o.first r y) es
+              ∙ ap (λ (y : List ℕ). joined_of (Ok u) o.first r y) es
               ∙ ap (λ (y : Answer). record { answer = y; «record» = whole_of d o.first s' }) (sym a)
               ∙ eo',
           ek ∙ ap (λ (x : Record). list_left g x b l) i,
@@ -160,8 +159,8 @@ module _ (d : Degree) (n m : ℕ) (t : List ℕ) (r : Record) (long : length r.s
 
     by_said : (v : Verdict) → search_verdict g r b l ≡ v → length s' ≡ lent_words d
         → (joined_of o.answer o.first r (s' ++ drop (lent_words d) r.seconds) ≡ outcome_of g r b l) × (k ≡ list_left g r b l)
-    by_said (verdict.Refused f) e kept = parts_refused f e (s' ++ drop (lent_words d) r.seconds)
-    by_said verdict.Done e kept = parts_done e kept
+    by_said (Err f) e kept = parts_refused f e (s' ++ drop (lent_words d) r.seconds)
+    by_said (Ok _) e kept = parts_done e kept
 
     pub parts_joined : length s' ≡ lent_words d
         → (joined_of o.answer o.first r (s' ++ drop (lent_words d) r.seconds) ≡ outcome_of g r b l) × (k ≡ list_left g r b l)

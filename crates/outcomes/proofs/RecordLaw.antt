@@ -1,17 +1,14 @@
 -- The test of two records decides whether they are equal.
 use mathlib.Core.Path.{◌≡◌, refl, sym, ap, ap₂, ◌∙◌}
 use mathlib.Core.Bool.{Bool, true, false, ◌&&◌}
-use mathlib.Core.Logic.{◌↔◌, by_cases}
+use mathlib.Core.Logic.{◌↔◌}
 use mathlib.Core.List.{List, [], ◌∷◌}
-use Prim.Native.Nat.{ℕ, zero, suc, ◌+◌, ◌≤◌, ◌<◌}
-use native.Mathlib.Numerals.{add-one}
-use native.Mathlib.Decide.{ℕ_discrete}
+use Prim.Native.Nat.{ℕ, zero, suc}
 use native.Mathlib.Omega.{arith}
-use lib.Bits.{bit_and, bit_or, bit_xor, and_le_l, and_le_r, or_add_and, xor_add_and, xor_self}
 use lib.Dec.{eqb}
-use lib.ListN.{length, get_or, drop, replicate, drop_of_length-le}
-use lib.Seq.{drop-cons}
-use borrow.Author.Tests.{eqb-true, eq-eqb, ne_eqb}
+use lib.Pointwise.{pointwise}
+use lib.ListN.{length, replicate}
+use borrow.Author.Tests.{eqb-true, eq-eqb}
 use Rattle.trits.specs.declared.Vector.{Vector}
 use Rattle.trits.proofs.Bits.{and_left, and_right}
 use Rattle.given.specs.declared.Degree.TheVariants.{Two, Three}
@@ -99,26 +96,27 @@ record_self r =
 pub record_iff : (r s : Record) → (same_record r s ≡ true) ↔ (r ≡ s)
 record_iff r s = (record_same r s, λ e. ap (same_record r) (sym e) ∙ record_self r)
 
--- ---- the comparison of two lists from the front on; z stands where a list has no entry
-module _ {A : Type 0} (same : A → A → Bool) (z : A) (a b : List A) where
-  same_next : (i : ℕ) → i < length a → i < length b
-      → same_list same (drop i a) (drop i b) ≡ (same (get_or a i z) (get_or b i z) && same_list same (drop (i + 1) a) (drop (i + 1) b))
-  unfolding same_list
-  same_next i ha hb = ap₂ (same_list same) (drop-cons a i z ha) (drop-cons b i z hb) ∙ rw (add-one i)
+-- ---- what `==` asks of two lists, and of two first parts
+pub lists_told : {A : Type 0} (same : A → A → Bool) (vs ws : List A) → pointwise same vs ws ≡ same_list same vs ws
+unfolding same_list
+lists_told same [] [] = refl
+lists_told same [] (w ∷ ws) = refl
+lists_told same (v ∷ vs) [] = refl
+lists_told same (v ∷ vs) (w ∷ ws) = ap (λ (z : Bool). same v w && z) (lists_told same vs ws)
 
-  pub same_end : (i : ℕ) → length a ≤ i → length b ≤ i → same_list same (drop i a) (drop i b) ≡ true
-  unfolding same_list
-  same_end i ha hb = ap₂ (same_list same) (drop_of_length-le a ha) (drop_of_length-le b hb)
+in_turn : (a b c d e : Bool) → (a && (b && (c && (d && e)))) ≡ (a && b && c && d && e)
+in_turn true true true true e = refl
+in_turn true true true false e = refl
+in_turn true true false d e = refl
+in_turn true false c d e = refl
+in_turn false b c d e = refl
 
-  module _ (i : ℕ) (ha : i < length a) (hb : i < length b) (x : Bool) (e : x ≡ same (get_or a i z) (get_or b i z)) (w : Bool)
-      (rest : same_list same (drop i a) (drop i b) ≡ w) where
-    pub same_stop : x ≡ false → false ≡ w
-    same_stop f =
-        sym (ap (λ (y : Bool). y && same_list same (drop (i + 1) a) (drop (i + 1) b)) (sym e ∙ f)) ∙ sym (same_next i ha hb) ∙ rest
-
-    pub same_go : x ≡ true → same_list same (drop (i + 1) a) (drop (i + 1) b) ≡ w
-    same_go f =
-        sym (ap (λ (y : Bool). y && same_list same (drop (i + 1) a) (drop (i + 1) b)) (sym e ∙ f)) ∙ sym (same_next i ha hb) ∙ rest
+pub first_told : (f o : First)
+    → (eqb f.n o.n && (eqb f.m o.m && (eqb f.place.0 o.place.0 && (same_vector f.value o.value && pointwise same_vector f.slots o.slots)))) ≡ same_first f o
+unfolding same_first
+first_told f o =
+    in_turn (eqb f.n o.n) (eqb f.m o.m) (eqb f.place.0 o.place.0) (same_vector f.value o.value) (pointwise same_vector f.slots o.slots)
+    ∙ ap (λ (z : Bool). eqb f.n o.n && eqb f.m o.m && eqb f.place.0 o.place.0 && same_vector f.value o.value && z) (lists_told same_vector f.slots o.slots)
 
 -- ---- a record in two parts
 and_true : (x : Bool) → (x && true) ≡ x
@@ -142,50 +140,6 @@ module _ (f : First) (s : List ℕ) (o x : Record) (e : o ≡ x) where
 
   pub three_seconds : same_first f (first_of o) ≡ true → same_list eqb s o.seconds ≡ same_record (whole_of Three f s) x
   three_seconds h = sym (ap (λ (z : Bool). z && same_list eqb s o.seconds) h) ∙ three_same
-
--- ---- the words that differ, in one word that is zero where none does
-and_assoc : (x y z : Bool) → ((x && y) && z) ≡ (x && (y && z))
-and_assoc true y z = refl
-and_assoc false y z = refl
-
-and_no : (x y : Bool) → y ≡ false → (x && y) ≡ false
-and_no true y e = e
-and_no false y e = refl
-
-module _ (d x y : ℕ) where
-  -- no bit is lost
-  kept : d ≤ bit_or d (bit_xor x y)
-  kept = omega (arith, or_add_and d (bit_xor x y), and_le_r d (bit_xor x y))
-
-  told : bit_xor x y ≤ bit_or d (bit_xor x y)
-  told = omega (arith, or_add_and d (bit_xor x y), and_le_l d (bit_xor x y))
-
-  equal : bit_xor x y ≡ 0 → x ≡ y
-  equal e = omega (arith, e, xor_add_and x y, and_le_l x y, and_le_r x y)
-
-  none : d ≡ 0 → x ≡ y → bit_or d (bit_xor x y) ≡ 0
-  none z e = let i : bit_xor x y ≡ 0 = ap (bit_xor x) (sym e) ∙ xor_self x in omega (arith, z, i, or_add_and d (bit_xor x y))
-
-  pub differ_next : eqb (bit_or d (bit_xor x y)) 0 ≡ (eqb d 0 && eqb x y)
-  differ_next =
-      by_cases (ℕ_discrete d 0)
-      (λ z. by_cases (ℕ_discrete x y)
-      (λ e. eq-eqb (bit_or d (bit_xor x y)) 0 (none z e) ∙ sym (both (eqb d 0) (eqb x y) (eq-eqb d 0 z) (eq-eqb x y e)))
-      (λ f. ne_eqb (bit_or d (bit_xor x y)) 0 (λ h. f (equal (omega (arith, h, told)))) ∙ sym (and_no (eqb d 0) (eqb x y) (ne_eqb x y f))))
-      (λ f. ne_eqb (bit_or d (bit_xor x y)) 0 (λ h. f (omega (arith, h, kept))) ∙ sym (ap (λ (z : Bool). z && eqb x y) (ne_eqb d 0 f)))
-
-module _ (a b : List ℕ) (d i : ℕ) (w : Bool) (rest : (eqb d 0 && same_list eqb (drop i a) (drop i b)) ≡ w) where
-  pub differ_go : i < length a → i < length b
-      → (eqb (bit_or d (bit_xor (get_or a i 0) (get_or b i 0))) 0 && same_list eqb (drop (i + 1) a) (drop (i + 1) b)) ≡ w
-  differ_go ha hb =
-      let x = get_or a i 0 in
-      let y = get_or b i 0 in
-      let more = same_list eqb (drop (i + 1) a) (drop (i + 1) b) in
-      ap (λ (z : Bool). z && more) (differ_next d x y) ∙ and_assoc (eqb d 0) (eqb x y) more
-      ∙ ap (λ (z : Bool). eqb d 0 && z) (sym (same_next eqb 0 a b i ha hb)) ∙ rest
-
-  pub differ_end : length a ≤ i → length b ≤ i → eqb d 0 ≡ w
-  differ_end ha hb = sym (and_true (eqb d 0)) ∙ ap (λ (z : Bool). eqb d 0 && z) (sym (same_end eqb 0 a b i ha hb)) ∙ rest
 
 -- ---- words that are all zero
 pub zeros_same : (s : List ℕ) (k : ℕ) → length s ≡ k → same_list eqb s (replicate k 0) ≡ all_zero s

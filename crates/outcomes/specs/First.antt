@@ -1,13 +1,12 @@
 -- A call on a record in two parts: its first part, and the words that are lent for its second slots (opening/specs/First).
-use Rattle.std.specs.Prelude.{Bool, ◌&&◌, List, ℕ, eqb}
+use Rattle.std.specs.Prelude.{Bool, ◌&&◌, List, ℕ, eqb, Ok, Err}
 use Rattle.refusals.specs.Choice.{pick}
 use Rattle.given.specs.declared.Degree.{Degree}
 use Rattle.given.specs.declared.Degree.TheVariants.{Two, Three}
 use Rattle.opening.specs.declared.First.{First}
 use Rattle.opening.specs.declared.Record.{Record}
 use Rattle.opening.specs.First.{all_zero, whole_of}
-use Rattle.outcomes.specs.declared.Answer.{Answer}
-use Rattle.outcomes.specs.declared.Answer.TheVariants as answer
+use Rattle.outcomes.specs.Search.{Answer}
 use Rattle.outcomes.specs.declared.Moved.{Moved}
 use Rattle.outcomes.specs.declared.Outcome.{Outcome}
 use Rattle.outcomes.specs.Search.{same_vector, same_list}
@@ -34,6 +33,6 @@ same_first r s =
 
 -- the outcome of a call on the record r, of which it left the first part f and the second slots s; with a refusal the record is as it was
 unfoldable pub joined_of : Answer → First → Record → List ℕ → Outcome
-joined_of (answer.Ran x) f r s =
-    record { answer = answer.Ran x; «record» = record { n = f.n; m = f.m; place = f.place; value = f.value; slots = f.slots; seconds = s } }
-joined_of (answer.Refused x) f r s = record { answer = answer.Refused x; «record» = r }
+joined_of (Ok x) f r s =
+    record { answer = Ok x; «record» = record { n = f.n; m = f.m; place = f.place; value = f.value; slots = f.slots; seconds = s } }
+joined_of (Err x) f r s = record { answer = Err x; «record» = r }

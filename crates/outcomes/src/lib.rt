@@ -12,24 +12,17 @@ use opening::{First, Record};
 use refusals::Refusal;
 use walks::{Report, Stop};
 
-// What a call says: how it stopped and what it did, or why it was refused.
-#[derive(Clone, Copy)]
-pub enum Answer {
-    Ran(Report),
-    Refused(Refusal),
-}
-
 // The answer, and the record moved on; with a refusal the record is as it was.
 #[derive(Drop)]
 pub struct Outcome {
-    pub answer: Answer,
+    pub answer: Result<Report, Refusal>,
     pub record: Record,
 }
 
 // The same of a record in two parts: the answer, and the first part moved on. The second slots stand where they were lent.
 #[derive(Drop)]
 pub struct Moved {
-    pub answer: Answer,
+    pub answer: Result<Report, Refusal>,
     pub first: First,
 }
 

@@ -1,15 +1,14 @@
 -- The start of a session: the head and what is left of the walk of a graph's table are its whole output.
+use Rattle.std.specs.Prelude.{Result, Ok, Err, IsOkAnd, MatchResult}
 use mathlib.Core.Path.{◌≡◌, refl, sym, ap, ap₂, ◌∙◌}
-use mathlib.Core.Bool.{Bool, true, true≢false}
+use mathlib.Core.Bool.{Bool, true}
 use mathlib.Core.List.{List, ◌++◌}
 use Prim.Native.Nat.{ℕ, ◌-◌, ◌*◌, ◌^◌, ◌≤◌}
 use native.Mathlib.Omega.{arith}
 use lib.ListN.{length, take, drop}
 use lib.Seq.{take_at}
 use Rattle.refusals.specs.declared.Refusal.{Refusal}
-use Rattle.refusals.specs.declared.Verdict.{Verdict}
-use Rattle.refusals.specs.declared.Verdict.TheVariants as verdict
-use Rattle.refusals.specs.Refusal.{number_of, after}
+use Rattle.refusals.specs.Refusal.{Verdict, number_of, after, done}
 use Rattle.refusals.specs.Limits.{Within}
 use Rattle.tables.specs.Monomials.{count_of}
 use Rattle.tables.specs.Words.{words_of, differences_of}
@@ -20,15 +19,14 @@ use Rattle.graphs.specs.Edges.{Ends}
 use Rattle.graphs.specs.Reading.{Outcome, graph, outcome_of}
 use Rattle.graphs.specs.Drawn.{Drawn}
 use Rattle.graphs.proofs.SoundLaw.{text_drawn}
-use Rattle.reader.specs.declared.ReadAnswer.TheVariants as answer
 use Rattle.equations.specs.Equations.{system_of}
-use Rattle.reader.specs.Answers.{answer_of, words_after}
+use Rattle.reader.specs.Answers.{read_graph, read_refused, answer_of, words_after}
 use Rattle.reader.proofs.AnswerLaw.{graph_is, refused_is}
 use Rattle.walks.specs.Calls.{zeros_in, cost_in}
 use Rattle.given.specs.Given.{Given, quadratic, Checked}
 use Rattle.given.proofs.TableLaw.{checked_of_lem, copy_into}
-use Rattle.opening.specs.declared.Opened.{Opened}
-use Rattle.opening.specs.Opened.{opened_at, no_record, open_of}
+use Rattle.opening.specs.declared.Record.{Record}
+use Rattle.opening.specs.Opened.{Opened, opened_at, opened_by, open_of}
 use Rattle.outcomes.specs.Search.{trail_behind}
 use Rattle.outcomes.proofs.TrailLaw.{end_is}
 use Rattle.opening.proofs.VerdictLaw.{verdict_done}
@@ -36,17 +34,23 @@ use Rattle.demand.proofs.DemandLaw.{cost_all_lem}
 use Rattle.planner.specs.declared.Session.{Session}
 use Rattle.texts.specs.Text.{refusal_line, line_if}
 use Rattle.listing.specs.Listing.{layout_lines, head_line, totals_line}
-use Rattle.planner.specs.Output.{layouts_in, totals_for, written_for, output_of, told_for, told_of, own_table, totals_of, left_from, left_of, walk_told, told_when, Begun}
-use Rattle.planner.specs.Parts.{Refuses, Startable, Started}
+use Rattle.planner.specs.Output.{layouts_in, totals_for, written_for, output_of, told_for, told_of, own_table, totals_of, left_from, left_of, walk_told, Begins, Refuses, Begun}
+use Rattle.planner.specs.Parts.{Startable, Started}
 use Rattle.planner.proofs.GraphLaw.{zeros_layouts}
-use Rattle.planner.proofs.NextLaw.{append_none}
+
+same_record : (r s : Record) → ◌≡◌ {A = Opened} (Ok r) (Ok s) → r ≡ s
+same_record r s e = cc
+
+-- what is not refused
+pub never : {A : Type 0} (f : Refusal) (x : A) (r : Result A Refusal) → r ≡ Ok x → r ≡ Err f → ⊥
+never f x r e g = let z : ◌≡◌ {A = ℕ} 0 1 = cc in omega arith
 
 -- ---- the table
 module _ (n m : ℕ) (words old : List ℕ) (h : Startable n m words old) where
   limits : Within n m
   limits = record { least = h.least; most = h.most; one = h.some; wide = h.few }
 
-  copies : copy_verdict n m words old ≡ verdict.Done
+  pub copies : copy_verdict n m words old ≡ done
   copies = copy_into n m words old limits h.legal h.room
 
   -- the differences are written
@@ -61,39 +65,41 @@ module _ (n m : ℕ) (words old : List ℕ) (h : Startable n m words old) where
     checked = checked_of_lem n m t limits (rw e (differences_table n m words))
 
     -- the walk is opened at place 0
-    opened_is : (o : Opened) → o ≡ open_of g 0 → o.«record» ≡ opened_at g 0
-    opened_is o q =
-        ap (λ (o : Opened). o.«record») q ∙ ap (λ (v : Verdict). after v no_record (opened_at g 0)) (verdict_done g 0 checked (omega arith))
+    pub opens : open_of g 0 ≡ Ok (opened_at g 0)
+    opens = ap (λ (v : Verdict). opened_by v (opened_at g 0)) (verdict_done g 0 checked (omega arith))
 
-    pub started : (o : Opened) (b : List ℕ) (used : ℕ) → o ≡ open_of g 0 → used ≤ length b → take used b ≡ head_line n m
-        → Started n m words t b (record { n = n; m = m; «record» = o.«record»; points = 0; additions = 0; found = 0; used = used; «open» = true })
+    pub started : (r : Record) (b : List ℕ) (used : ℕ) → ◌≡◌ {A = Opened} (Ok r) (open_of g 0) → used ≤ length b → take used b ≡ head_line n m
+        → Started n m words t b (record { n = n; m = m; «record» = r; points = 0; additions = 0; found = 0; used = used; «open» = true })
     unfolding cost_in zeros_in
-    started o b used q l d =
+    started r b used q l d =
         record {
           going = refl;
           unknowns = refl;
           equations = refl;
           first = refl;
           differences = e;
-          standing = record { checked = checked; within = omega arith; «record» = opened_is o q; additions = refl; found = refl };
+          standing = record { checked = checked; within = omega arith; «record» = same_record r (opened_at g 0) (q ∙ opens); additions = refl; found = refl };
           used = l;
           bytes = d;
         }
 
 -- ---- what was read
+-- a session that began, handed on
+pub begun_ok : (input table b : List ℕ) (P : Session → Type 0) (Q : Refusal → Type 0) (r : Result Session Refusal) (q : Result Session ℕ) → IsOkAnd r P
+    → MatchResult r (λ s. q ≡ Ok s) Q → ((s : Session) → P s → Begins input table b s) → Begun input table b q
+begun_ok input table b P Q (Ok s) q h e f = rw e (f s h)
+begun_ok input table b P Q (Err g) q h e f = absurd h
+
 -- a refusal is the whole output
-pub begun_refused : (input table b : List ℕ) (f : Refusal) (number line : ℕ) (r : Session) → answer.Refused f line ≡ answer_of (outcome_of input 462)
-    → number ≡ number_of f → Refuses number line b r → Begun input table b r
-unfolding output_of told_of left_of
-begun_refused input table b f number line r e q h =
+pub begun_refused : (input b : List ℕ) (f : Refusal) (number line used : ℕ) → read_refused f line ≡ answer_of (outcome_of input 462)
+    → number ≡ number_of f → used ≤ length b → take used b ≡ refusal_line number line → Refuses input b used
+unfolding output_of told_of
+begun_refused input b f number line used e q l h =
+    let said = ap (λ (x : ℕ). refusal_line x line) (sym q) ∙ sym h in
     record {
-      output = ap written_for (refused_is (outcome_of input 462) f line (sym e)) ∙ ap (λ (x : ℕ). refusal_line x line) (sym q) ∙ sym h.bytes
-          ∙ sym (append_none (take r.used b))
-          ∙ ap (λ (x : Bool). take r.used b ++ line_if x (left_from r.n (trail_behind (own_table (take (2 * count_of r.n) table) r)) r.points)) (sym h.over);
-      told = ap told_for (refused_is (outcome_of input 462) f line (sym e)) ∙ ap (λ (x : ℕ). refusal_line x line) (sym q) ∙ sym h.bytes
-          ∙ ap (λ (x : Bool). told_when x (walk_told (take (2 * count_of r.n) table) r) (take r.used b)) (sym h.over);
-      standing = λ o. absurd (true≢false (sym o ∙ h.over));
-      used = h.used;
+      output = ap written_for (refused_is (outcome_of input 462) f line (sym e)) ∙ said;
+      told = ap told_for (refused_is (outcome_of input 462) f line (sym e)) ∙ said;
+      fits = l;
     }
 
 -- the table of a graph's edges
@@ -120,7 +126,7 @@ left_graph input v es e =
     (ap (λ (x : ℕ). zeros_in T 0 (x - 0)) (end_is g) ∙ ap (zeros_in T 0) (none (3 ^ v)) ∙ zeros_layouts input v es e 0 (3 ^ v))
     (totals_graph input v es e)
 
-module _ (input : List ℕ) (n m : ℕ) (e : answer.Graph n m ≡ answer_of (outcome_of input 462)) where
+module _ (input : List ℕ) (n m : ℕ) (e : read_graph n m ≡ answer_of (outcome_of input 462)) where
   abbrev found : (es : List Ends) × (outcome_of input 462 ≡ graph n es) × (length es ≡ m)
   found = graph_is (outcome_of input 462) n m (sym e)
 
@@ -154,15 +160,15 @@ module _ (input : List ℕ) (n m : ℕ) (e : answer.Graph n m ≡ answer_of (out
 
   -- a graph
   pub begun_graph : (old ws t rest b : List ℕ) (r : Session) → ws ≡ words_after (outcome_of input 462) old
-      → Started n m (take (2 * count_of n) ws) t b r → length t ≡ 2 * count_of n → Begun input (t ++ rest) b r
+      → Started n m (take (2 * count_of n) ws) t b r → length t ≡ 2 * count_of n → Begins input (t ++ rest) b r
   unfolding output_of told_of left_of walk_told
   begun_graph old ws t rest b r q h l =
       let a : take (2 * count_of r.n) (t ++ rest) ≡ t = take_at t rest (2 * count_of r.n) (l ∙ ap (λ (x : ℕ). 2 * count_of x) (sym h.unknowns)) in
       record {
         output = whole found.0 found.1 found.2 (words_are old ws q) a;
-        told = ap told_for found.1 ∙ ending found.0 found.1 found.2 (words_are old ws q) a
-            ∙ ap (λ (x : Bool). told_when x (walk_told (take (2 * count_of r.n) (t ++ rest)) r) (take r.used b)) (sym h.going);
-        standing = λ o. rw a h.standing;
+        told = ap told_for found.1 ∙ ending found.0 found.1 found.2 (words_are old ws q) a;
+        standing = rw a h.standing;
+        going = h.going;
         used = h.used;
       }
     where

@@ -7,7 +7,7 @@ use native.Mathlib.Omega.{arith}
 use lib.ListN.{take}
 use Rattle.tables.specs.Monomials.{count_of}
 use Rattle.planner.specs.declared.Session.{Session}
-use Rattle.planner.specs.Output.{output_of, own_table, Standing, left_from, left_of, Begun, Went, Calls, none, more}
+use Rattle.planner.specs.Output.{output_of, own_table, Standing, left_from, left_of, Begins, Went, Calls, none, more}
 use Rattle.outcomes.specs.Search.{trail_behind}
 use Rattle.given.proofs.TableLaw.{within, power_small}
 use Rattle.planner.proofs.NextLaw.{append_none}
@@ -50,7 +50,7 @@ calls_left_lem t s l r (more {r = u} {b = b} {l = k} w c) =
     w.output ∙ ap (λ (x : List ℕ). take u.used b ++ x) (calls_left_lem t u k r c) ∙ sym (append_assoc (take u.used b) k (left_of t r))
 
 -- what reading and the calls leave to be written, joined, is the whole output once the session is over
-pub whole_output : (input table b : List ℕ) (s : Session) (l : List ℕ) (r : Session) → Begun input table b s
+pub whole_output : (input table b : List ℕ) (s : Session) (l : List ℕ) (r : Session) → Begins input table b s
     → Calls (take (2 * count_of s.n) table) s l r → r.open ≡ false → output_of input ≡ take s.used b ++ l
 whole_output input table b s l r g c e =
     let t = take (2 * count_of s.n) table in

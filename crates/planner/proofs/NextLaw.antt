@@ -1,4 +1,5 @@
 -- One call of a session: it is never refused, and its lines and what is left after it are what was left before it.
+use Rattle.std.specs.Prelude.{Ok, Err}
 use mathlib.Core.Path.{◌≡◌, refl, sym, ap, ap₂, ◌∙◌}
 use mathlib.Core.Bool.{Bool, true, false, not, true≢false}
 use mathlib.Core.Logic.{by_cases}
@@ -12,9 +13,7 @@ use lib.ListN.{length, take, length-take, length-append}
 use borrow.Author.Tests.{eq-eqb, ne_eqb}
 use Rattle.refusals.specs.declared.Refusal.{Refusal}
 use Rattle.refusals.specs.declared.Refusal.TheVariants as refusal
-use Rattle.refusals.specs.declared.Verdict.{Verdict}
-use Rattle.refusals.specs.declared.Verdict.TheVariants as verdict
-use Rattle.refusals.specs.Refusal.{refuse, after}
+use Rattle.refusals.specs.Refusal.{Verdict, refuse, after, done}
 use Rattle.refusals.proofs.RefusalLaw.{refuse_none}
 use Rattle.given.specs.Given.{Given, quadratic, Checked}
 use Rattle.given.proofs.TableLaw.{within, power_small}
@@ -24,8 +23,7 @@ use Rattle.walks.specs.declared.Report.{Report}
 use Rattle.walks.specs.Calls.{Trail, zeros_in, cost_in, points_in, report_of, list_after}
 use Rattle.walks.proofs.CallLaw.{zeros_add, zeros_length, zeros_room, cost_add, cost_most, points_one, points_end, report_ended, after_front, after_length}
 use Rattle.opening.specs.declared.Record.{Record}
-use Rattle.outcomes.specs.declared.Answer.{Answer}
-use Rattle.outcomes.specs.declared.Answer.TheVariants.{Ran, Refused}
+use Rattle.outcomes.specs.Search.{Answer}
 use Rattle.outcomes.specs.declared.Outcome.{Outcome}
 use Rattle.opening.specs.Opened.{opened_at}
 use Rattle.outcomes.specs.Search.{trail_behind, search_verdict, ran_of, outcome_from, outcome_of, list_left}
@@ -71,17 +69,17 @@ module _ (n : ℕ) (T : Trail) where
       ∙ ap (λ (x : ℕ). totals_line x (cost_in T 0 x) (length (zeros_in T 0 x))) (sym h)
 
 -- ---- one call of the search on a session's own record
-asked_done : (b : ℕ) (l : List ℕ) → 0 < b → 0 < length l → asked b l ≡ verdict.Done
+asked_done : (b : ℕ) (l : List ℕ) → 0 < b → 0 < length l → asked b l ≡ done
 asked_done b l h j =
-    refuse_none (eqb b 0) refusal.Budget (refuse (eqb (length l) 0) refusal.List verdict.Done) (ne_eqb b 0 (λ e. omega arith))
-    ∙ refuse_none (eqb (length l) 0) refusal.List verdict.Done (ne_eqb (length l) 0 (λ e. omega arith))
+    refuse_none (eqb b 0) refusal.Budget (refuse (eqb (length l) 0) refusal.List done) (ne_eqb b 0 (λ e. omega arith))
+    ∙ refuse_none (eqb (length l) 0) refusal.List done (ne_eqb (length l) 0 (λ e. omega arith))
 
 module _ (g : Given) (p b : ℕ) (l : List ℕ) (r : Record) (ok : Checked g) (h : p ≤ 3 ^ g.n) (some : 0 < b) (room : 0 < length l)
     (at : r ≡ opened_at g p) where
   place_is : r.place.0 ≡ p
   place_is = ap (λ (r : Record). r.place.0) at ∙ place_opened g p
 
-  passes : search_verdict g r b l ≡ verdict.Done
+  passes : search_verdict g r b l ≡ done
   passes = ap (λ (r : Record). search_verdict g r b l) at ∙ verdict_opened g p b l ok h ∙ asked_done b l some room
 
   call_ran : (o : Outcome) → o ≡ outcome_of g r b l → o ≡ ran_of g p b (length l)
@@ -92,10 +90,10 @@ module _ (g : Given) (p b : ℕ) (l : List ℕ) (r : Record) (ok : Checked g) (h
   call_list k e =
       e ∙ ap (λ (v : Verdict). after v l (list_after (trail_behind g) b r.place.0 l)) passes ∙ ap (λ (q : ℕ). list_after (trail_behind g) b q l) place_is
 
-same_ran : (a : Answer) (u w : Report) → a ≡ Ran u → a ≡ Ran w → w ≡ u
+same_ran : (a : Answer) (u w : Report) → a ≡ Ok u → a ≡ Ok w → w ≡ u
 same_ran a u w e f = cc
 
-ran_refused : (a : Answer) (u : Report) (f : Refusal) → a ≡ Ran u → a ≡ Refused f → ⊥
+ran_refused : (a : Answer) (u : Report) (f : Refusal) → a ≡ Ok u → a ≡ Err f → ⊥
 ran_refused a u f e g = let z : ◌≡◌ {A = ℕ} 0 1 = cc in omega arith
 
 ended_true : (s : Stop) → is_ended s ≡ true → s ≡ Ended
@@ -151,13 +149,13 @@ module _ (t : List ℕ) (s : Session) (st : Standing t s) (b : ℕ) (l : List �
       }
 
   -- no call is refused
-  pub not_refused : (o : Outcome) (f : Refusal) → o ≡ outcome_of g s.«record» b l → o.answer ≡ Refused f → ⊥
+  pub not_refused : (o : Outcome) (f : Refusal) → o ≡ outcome_of g s.«record» b l → o.answer ≡ Err f → ⊥
   not_refused o f e a =
       ran_refused o.answer (report_of T b (length l) p) f
       (ap (λ (o : Outcome). o.answer) (call_ran g p b l s.«record» st.checked st.within some room st.«record» o e)) a
 
   pub answered : (o : Outcome) (w : Report) (z : List ℕ) → o ≡ outcome_of g s.«record» b l → z ≡ list_left g s.«record» b l
-      → o.answer ≡ Ran w → Report-is w o.«record» z
+      → o.answer ≡ Ok w → Report-is w o.«record» z
   unfolding k
   answered o w z eo ez a =
       let e = call_ran g p b l s.«record» st.checked st.within some room st.«record» o eo in

@@ -17,8 +17,8 @@ use Rattle.planner.proofs.NextLaw.{append_none}
 module _ (s : Session) (o : Record) (w : Report) (l old : List ℕ) (h : Tellable s w l old) (mid : List ℕ) (at : ℕ)
     (put : Put old 0 (layout_lines s.n l) mid at) (short : at ≤ 63 * length l) (b : Bool) (eb : b ≡ is_ended w.stop) where
   -- the session with the counts of the call added
-  abbrev pub added : ℕ → Bool → Session
-  added used going =
+  abbrev pub added : ℕ → Session
+  added used =
       record {
         n = s.n;
         m = s.m;
@@ -27,10 +27,10 @@ module _ (s : Session) (o : Record) (w : Report) (l old : List ℕ) (h : Tellabl
         additions = s.additions + w.additions;
         found = s.found + w.found;
         used = used;
-        «open» = going;
+        «open» = not b;
       }
 
-  pub told_on : b ≡ false → Told s o w l old mid (added at true)
+  pub told_on : b ≡ false → Told s o w l old mid (added at)
   told_on e =
       let z = sym eb ∙ e in
       record {
@@ -40,7 +40,7 @@ module _ (s : Session) (o : Record) (w : Report) (l old : List ℕ) (h : Tellabl
         points = refl;
         additions = refl;
         found = refl;
-        going = ap not (sym z);
+        going = ap not eb;
         used = omega (arith, put.size, h.room);
         size = put.size;
         rest = put.rest;
@@ -49,7 +49,7 @@ module _ (s : Session) (o : Record) (w : Report) (l old : List ℕ) (h : Tellabl
       }
 
   pub told_over : (new : List ℕ) (end : ℕ) → Put mid at (totals_line (s.points + w.points) (s.additions + w.additions) (s.found + w.found)) new end
-      → end ≤ at + 92 → b ≡ true → Told s o w l old new (added end false)
+      → end ≤ at + 92 → b ≡ true → Told s o w l old new (added end)
   told_over new end last far e =
       let z = sym eb ∙ e in
       record {
@@ -59,7 +59,7 @@ module _ (s : Session) (o : Record) (w : Report) (l old : List ℕ) (h : Tellabl
         points = refl;
         additions = refl;
         found = refl;
-        going = ap not (sym z);
+        going = ap not eb;
         used = omega (arith, put.size, last.size, h.room);
         size = last.size ∙ put.size;
         rest = last.rest ∙ farther;

@@ -1,5 +1,5 @@
 -- What the program writes for a text, and what is left to write of it between two calls of the search.
-use Rattle.std.specs.Prelude.{◌≡◌, Bool, true, false, not, ◌&&◌, List, [], ◌∷◌, ◌++◌, ℕ, zero, suc, ◌+◌, ◌-◌, ◌*◌, ◌^◌, ◌≤◌, ◌<◌, eqb, length, take, drop}
+use Rattle.std.specs.Prelude.{◌≡◌, Bool, true, not, ◌&&◌, List, [], ◌∷◌, ◌++◌, ℕ, zero, suc, ◌+◌, ◌-◌, ◌*◌, ◌^◌, ◌≤◌, ◌<◌, eqb, length, take, drop, Result, Ok, Err}
 use Rattle.refusals.specs.Refusal.{number_of}
 use Rattle.gray.specs.Numbers.{point_digit, point_of}
 use Rattle.tables.specs.Monomials.{count_of}
@@ -73,17 +73,24 @@ left_of t s = line_if s.open (left_from s.n (trail_behind (own_table t s)) s.poi
 unfoldable pub walk_told : List ℕ → Session → List ℕ
 walk_told t s = head_line s.n s.m ++ totals_of (trail_behind (own_table t s))
 
--- that of a walk which goes on; otherwise it is what was written
-abbrev pub told_when : Bool → List ℕ → List ℕ → List ℕ
-told_when true w l = w
-told_when false w l = l
-
--- after reading: what is to be written first, and the rest, are the whole output
-pub record Begun (input table b : List ℕ) (r : Session) : Type 0 where
+-- after reading a graph: what is to be written first, and the rest, are the whole output, and the session goes on
+pub record Begins (input table b : List ℕ) (r : Session) : Type 0 where
   pub output : output_of input ≡ take r.used b ++ left_of (take (2 * count_of r.n) table) r
-  pub told : told_of input ≡ told_when r.open (walk_told (take (2 * count_of r.n) table) r) (take r.used b)
-  pub standing : r.open ≡ true → Standing (take (2 * count_of r.n) table) r
+  pub told : told_of input ≡ walk_told (take (2 * count_of r.n) table) r
+  pub standing : Standing (take (2 * count_of r.n) table) r
+  pub going : r.open ≡ true
   pub used : r.used ≤ length b
+
+-- after a refusal: it is the whole output, and what is told beside it
+pub record Refuses (input b : List ℕ) (used : ℕ) : Type 0 where
+  pub output : output_of input ≡ take used b
+  pub told : told_of input ≡ take used b
+  pub fits : used ≤ length b
+
+-- after reading
+abbrev pub Begun : List ℕ → List ℕ → List ℕ → Result Session ℕ → Type 0
+Begun input table b (Ok s) = Begins input table b s
+Begun input table b (Err k) = Refuses input b k
 
 -- after a call: what is to be written next, and the rest, are what was left; while the session is open it goes on
 pub record Went (t : List ℕ) (s : Session) (b : List ℕ) (r : Session) : Type 0 where

@@ -8,15 +8,9 @@ use Rattle.walks.specs.declared.Stop.TheVariants.{Ended, Full, Spent}
 use Rattle.walks.specs.declared.Report.{Report}
 use Rattle.opening.specs.declared.Record.{Record}
 use Rattle.planner.specs.declared.Session.{Session}
-use Rattle.texts.specs.Text.{refusal_line, line_if}
+use Rattle.texts.specs.Text.{line_if}
 use Rattle.listing.specs.Listing.{layout_lines, head_line, totals_line, longest_layout, longest_totals}
 use Rattle.planner.specs.Output.{Standing}
-
--- the bytes b that are to be written hold a refusal, and the session is over
-pub record Refuses (number line : ℕ) (b : List ℕ) (r : Session) : Type 0 where
-  pub over : r.open ≡ false
-  pub used : r.used ≤ length b
-  pub bytes : take r.used b ≡ refusal_line number line
 
 -- what starting a walk asks: sizes within the limits, the words of a legal table, and room for its differences
 pub record Startable (n m : ℕ) (words table : List ℕ) : Type 0 where

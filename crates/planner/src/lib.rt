@@ -2,22 +2,23 @@
 // Contracts cite specs/Output (the output of an input, and what is left of it between two calls) and specs/Parts.
 #![tactic(auto)]
 
-ghost use Rattle.std.specs.Prelude.{◌≡◌, true, ◌+◌, ◌*◌, ◌≤◌, length};
+ghost use Rattle.std.specs.Prelude.{◌≡◌, true, ◌+◌, ◌*◌, ◌≤◌, IsOkAnd, length};
 ghost use Rattle.refusals.specs.Limits.{most_words};
 ghost use Rattle.texts.specs.Text.{longest_refusal};
 ghost use Rattle.listing.specs.Listing.{longest_layout, longest_head, longest_totals};
 ghost use Rattle.planner.specs.Output.{Standing, Begun, Went, Stepped};
-ghost use Rattle.planner.specs.Parts.{Refuses, Startable, Started, is_ended, Tellable, Told};
+ghost use Rattle.planner.specs.Parts.{Startable, Started, is_ended, Tellable, Told};
 
 use given::Degree;
+use graphs::Fault;
 use gray::Place;
 use opening::Record;
-use outcomes::Answer;
-use reader::ReadAnswer;
-use refusals::{MOST_UNKNOWNS, SECOND_WORDS};
+use reader::Sizes;
+use refusals::Refusal;
 use walks::{Report, Stop};
 
 // Between two calls: the walk's record, what the calls so far did, and how many bytes of the text are to be written.
+// `open` is no Option's flag: a session that is over still stands (`Went.standing`), and its counts are told.
 #[derive(Clone, Copy)]
 pub struct Session {
     pub n: u64,
@@ -30,72 +31,50 @@ pub struct Session {
     pub open: bool,
 }
 
-// The record that goes with no walk.
-fn no_record() -> Record {
-    let none = trits::Vector { high: 0, low: 0 };
-    Record {
-        n: 0,
-        m: 0,
-        place: Place(0),
-        value: none,
-        slots: [none; MOST_UNKNOWNS],
-        seconds: [0; SECOND_WORDS],
-    }
-}
-
-// A refusal: its line, and nothing after it.
-fn refused(number: u64, line: u64, text: &mut [u8]) -> Session
-    requires { longest_refusal ≤ length text.old }
-    ensures { Refuses number line text.new result }
-{
-    let used = texts::put_refusal(text, number, line);
-    Session {
-        n: 0,
-        m: 0,
-        record: no_record(),
-        points: 0,
-        additions: 0,
-        found: 0,
-        used,
-        open: false,
-    }
-}
-
-// The system of a graph that was read: its table of differences, its walk at place 0, and the first line.
-fn start(n: u64, m: u64, words: &[u64], table: &mut [u64], text: &mut [u8]) -> Session
+// The system of a graph that was read: its table of differences, its walk at place 0, and the first line. None of it is refused.
+fn start(
+    n: u64,
+    m: u64,
+    words: &[u64],
+    table: &mut [u64],
+    text: &mut [u8],
+) -> Result<Session, Refusal>
     requires { Startable n m words.now table.old × (longest_head ≤ length text.old) }
-    ensures { Started n m words.now table.new text.new result }
+    ensures { IsOkAnd result (Started n m words.now table.new text.new) }
 {
-    differences::differences(n, m, words, table);
-    let o = opening::open(Degree::Two, n, m, table, Place(0));
-    let first = o.record;
+    differences::differences(n, m, words, table)?;
+    let record = opening::open(Degree::Two, n, m, table, Place(0))?;
     let used = listing::put_head(text, n, m);
-    Session {
+    Ok(Session {
         n,
         m,
-        record: first,
+        record,
         points: 0,
         additions: 0,
         found: 0,
         used,
         open: true,
-    }
+    })
 }
 
-// Reads the input. The text has the first line, or the refusal; the table of a graph has its words in front.
-pub fn begin(input: &[u8], words: &mut [u64], table: &mut [u64], text: &mut [u8]) -> Session
+// Reads the input. The text has the first line; or the refusal, of so many bytes. The table of a graph has its words in front.
+pub fn begin(
+    input: &[u8],
+    words: &mut [u64],
+    table: &mut [u64],
+    text: &mut [u8],
+) -> Result<Session, usize>
     requires { (length words.old ≡ most_words) × (length table.old ≡ most_words) × (longest_refusal ≤ length text.old) }
     ensures { Begun input.now table.new text.new result }
 {
-    let answer = reader::read(input, words);
-    match answer {
-        ReadAnswer::Refused { why, line } => {
+    match reader::read(input, words) {
+        Err(Fault { why, line }) => {
             let number = refusals::number(why);
-            refused(number, line, text)
+            Err(texts::put_refusal(text, number, line))
         }
-        ReadAnswer::Graph { n, m } => {
+        Ok(Sizes { n, m }) => {
             let size = tables::words(n);
-            start(n, m, &words[..size], &mut table[..size], text)
+            start(n, m, &words[..size], &mut table[..size], text).map_err(|_| 0)
         }
     }
 }
@@ -104,11 +83,7 @@ pub fn begin(input: &[u8], words: &mut [u64], table: &mut [u64], text: &mut [u8]
 fn ended(stop: Stop) -> bool
     ensures { result ≡ is_ended stop }
 {
-    match stop {
-        Stop::Ended => true,
-        Stop::Full(_) => false,
-        Stop::Spent(_) => false,
-    }
+    stop == Stop::Ended
 }
 
 // What a call did is added and its points are listed; after the last call the totals too.
@@ -116,35 +91,21 @@ fn tell(s: Session, record: Record, report: Report, points: &[u64], text: &mut [
     requires { Tellable s report points.now text.old }
     ensures { Told s «record» report points.now text.old text.new result }
 {
-    let stop = report.stop;
-    let additions = s.additions + report.additions;
-    let found = s.found + report.found;
-    let place = s.points + report.points;
-    let over = ended(stop);
     let used = listing::put_layouts(text, s.n, points);
-    if !over {
-        return Session {
-            n: s.n,
-            m: s.m,
-            record,
-            points: place,
-            additions,
-            found,
-            used,
-            open: true,
-        };
-    }
-    let last = listing::put_totals(text, used, place, additions, found);
-    Session {
-        n: s.n,
-        m: s.m,
+    let told = Session {
         record,
-        points: place,
-        additions,
-        found,
-        used: last,
-        open: false,
+        points: s.points + report.points,
+        additions: s.additions + report.additions,
+        found: s.found + report.found,
+        used,
+        open: !ended(report.stop),
+        ..s
+    };
+    if told.open {
+        return told;
     }
+    let last = listing::put_totals(text, used, told.points, told.additions, told.found);
+    Session { used: last, ..told }
 }
 
 // One call of the search, of at most budget points: the text has a line for each layout that it found, and after the last call the totals.
@@ -153,25 +114,19 @@ pub fn next(s: Session, table: &[u64], budget: u64, list: &mut [u64], text: &mut
     ensures { Went table.now s text.new result
         × Stepped table.now s budget list.old list.new text.old text.new result }
 {
-    let r = s.record;
-    let o = search::search(Degree::Two, s.n, s.m, table, r, budget, list);
-    let answer = o.answer;
+    let o = search::search(Degree::Two, s.n, s.m, table, s.record, budget, list);
     let record = o.record;
-    match answer {
-        Answer::Ran(report) => {
+    match o.answer {
+        Ok(report) => {
             let k = report.found as usize;
             tell(s, record, report, &list[..k], text)
         }
         // No call on a session's own record is refused.
-        Answer::Refused(_) => Session {
-            n: s.n,
-            m: s.m,
+        Err(_) => Session {
             record,
-            points: s.points,
-            additions: s.additions,
-            found: s.found,
             used: 0,
             open: false,
+            ..s
         },
     }
 }

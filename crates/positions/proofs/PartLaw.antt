@@ -1,4 +1,5 @@
 -- What the code on positions uses: the bounds of 64 bits, and how a list of positions is read entry by entry.
+use Rattle.std.specs.Prelude.{Some, None}
 use mathlib.Core.Path.{◌≡◌, refl, sym, ap, ap₂, ◌∙◌}
 use mathlib.Core.Logic.{by_cases}
 use mathlib.Core.List.{List, [], ◌∷◌}
@@ -10,7 +11,6 @@ use lib.ListN.{length, get_or}
 use Rattle.positions.specs.Positions.{lowest_in, lowest_of, positions}
 use Rattle.positions.specs.Parts.{Splits, position_at}
 use Rattle.positions.specs.declared.Parts.{Parts}
-use Rattle.positions.specs.declared.PositionAnswer.TheVariants.{At, NoMore}
 use Rattle.positions.proofs.LowestLaw.{of_lt}
 use Rattle.positions.proofs.PositionLaw.{positions_none, positions_next}
 
@@ -23,11 +23,11 @@ pub lowest_word : (p : ℕ) → 0 < p → p < 2 ^ 64 → lowest_of 3 p ≤ 40
 lowest_word p h l = let s : p < 3 ^ 41 = omega arith in omega (arith, of_lt 3 (omega arith) 41 p h s)
 
 -- reading the positions of p: none, the first, a later one
-pub at_none : (k : ℕ) → position_at (positions 3 0) k ≡ NoMore
+pub at_none : (k : ℕ) → position_at (positions 3 0) k ≡ None
 unfolding position_at
 at_none k = ap (λ (ps : List ℕ). position_at ps k) (positions_none 3 (omega arith))
 
-pub at_first : (p : ℕ) → 0 < p → position_at (positions 3 p) 0 ≡ At (lowest_of 3 p)
+pub at_first : (p : ℕ) → 0 < p → position_at (positions 3 p) 0 ≡ Some (lowest_of 3 p)
 unfolding position_at
 at_first p h = ap (λ (ps : List ℕ). position_at ps 0) (positions_next 3 (omega arith) p h)
 
@@ -41,13 +41,13 @@ at_later p (suc k) h l =
     less k = omega arith
 
 -- what `position_at` says of a list: its entry, and its end
-pub at_in : (ps : List ℕ) (k : ℕ) → k < length ps → position_at ps k ≡ At (get_or ps k 0)
+pub at_in : (ps : List ℕ) (k : ℕ) → k < length ps → position_at ps k ≡ Some (get_or ps k 0)
 unfolding position_at
 at_in [] k h = absurd (omega arith)
 at_in (l ∷ ls) zero h = refl
 at_in (l ∷ ls) (suc k) h = at_in ls k (omega arith)
 
-pub at_end : (ps : List ℕ) (k : ℕ) → length ps ≤ k → position_at ps k ≡ NoMore
+pub at_end : (ps : List ℕ) (k : ℕ) → length ps ≤ k → position_at ps k ≡ None
 unfolding position_at
 at_end [] k h = refl
 at_end (l ∷ ls) zero h = absurd (omega arith)

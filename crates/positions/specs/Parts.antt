@@ -1,9 +1,7 @@
 -- What the code on positions answers: a number taken apart at its first position, and one entry of a list of positions.
-use Rattle.std.specs.Prelude.{◌≡◌, List, [], ◌∷◌, ℕ, zero, suc, ◌*◌, ◌^◌, ◌<◌}
+use Rattle.std.specs.Prelude.{◌≡◌, List, [], ◌∷◌, ℕ, zero, suc, ◌*◌, ◌^◌, ◌<◌, Some, None, Option}
 use Rattle.positions.specs.Positions.{lowest_of}
 use Rattle.positions.specs.declared.Parts.{Parts}
-use Rattle.positions.specs.declared.PositionAnswer.{PositionAnswer}
-use Rattle.positions.specs.declared.PositionAnswer.TheVariants.{At, NoMore}
 
 -- r is p taken apart: its first position, and what is left after division by 3 to that position
 pub record Splits (p : ℕ) (r : Parts) : Type 0 where
@@ -12,7 +10,7 @@ pub record Splits (p : ℕ) (r : Parts) : Type 0 where
   pub above : 0 < p → 0 < r.rest
 
 -- entry k of a list of positions
-unfoldable pub position_at : List ℕ → ℕ → PositionAnswer
-position_at [] k = NoMore
-position_at (l ∷ ls) zero = At l
+unfoldable pub position_at : List ℕ → ℕ → Option ℕ
+position_at [] k = None
+position_at (l ∷ ls) zero = Some l
 position_at (l ∷ ls) (suc k) = position_at ls k

@@ -35,6 +35,7 @@ pub fn split(p: u64) -> Parts
     if p == 0 {
         return Parts { position, rest };
     }
+    // Not counted by an index: it ends at the first digit that is not 0.
     while rest % 3 == 0 {
         rest = rest / 3;
         position += 1;
@@ -49,32 +50,19 @@ pub fn power(k: u64) -> u64
     if k > 40 {
         return 0;
     }
-    let mut r: u64 = 1;
-    let mut i: u64 = 0;
-    while i < k {
-        r = r * 3;
-        i += 1;
-    }
-    r
-}
-
-// One of the positions of a number, or the answer that it has no more.
-#[derive(Drop)]
-pub enum PositionAnswer {
-    At(usize),
-    NoMore,
+    3u64.pow(k as u32)
 }
 
 // Position k of p, counted from 0: the first of p, or one of those of p less 3 to the first.
-pub fn position(p: u64, k: u64) -> PositionAnswer
+pub fn position(p: u64, k: u64) -> Option<usize>
     ensures { result ≡ position_at (positions 3 p) k }
 {
     if p == 0 {
-        return PositionAnswer::NoMore;
+        return None;
     }
     let first = first_position(p);
     if k == 0 {
-        return PositionAnswer::At(first);
+        return Some(first);
     }
     let moved = power(first as u64);
     position(p - moved, k - 1)

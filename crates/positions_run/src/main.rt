@@ -3,38 +3,20 @@
 
 mod plain;
 
-use positions::PositionAnswer;
-
 // How much was compared, and how much of it differs.
-#[derive(Drop)]
+#[derive(Default, Drop)]
 struct Tally {
     compared: u64,
     differing: u64,
 }
 
-// One comparison more.
-fn compare(t: Tally, got: u64, wanted: u64) -> Tally {
-    let compared = std::num::wrapping_add_u64(t.compared, 1);
-    if got == wanted {
-        return Tally {
-            compared,
-            differing: t.differing,
-        };
-    }
-    let differing = std::num::wrapping_add_u64(t.differing, 1);
-    Tally {
-        compared,
-        differing,
-    }
-}
-
-// A number that is no position: stands for the answer that there are no more.
-const NO_MORE: u64 = 1000000000000;
-
-fn position_told(a: PositionAnswer) -> u64 {
-    match a {
-        PositionAnswer::At(k) => k as u64,
-        PositionAnswer::NoMore => NO_MORE,
+impl Tally {
+    // One comparison more.
+    fn compare(&mut self, same: bool) {
+        self.compared = self.compared.wrapping_add(1);
+        if !same {
+            self.differing = self.differing.wrapping_add(1);
+        }
     }
 }
 
@@ -46,44 +28,29 @@ fn stir(x: u64) -> u64 {
 }
 
 // The positions of p, one after the other, and that there are no more.
-fn positions_of(t: Tally, p: u64) -> Tally {
-    let mut tally = t;
-    let mut k: u64 = 0;
-    while k < 24 {
-        tally = compare(
-            tally,
-            position_told(positions::position(p, k)),
-            plain::position(p, k, NO_MORE),
-        );
-        k += 1;
+fn positions_of(tally: &mut Tally, p: u64) {
+    for k in 0..24 {
+        tally.compare(positions::position(p, k) == plain::position(p, k));
     }
-    tally
 }
 
 // The positions of the first numbers, and of random ones.
-fn positions_all(t: Tally) -> Tally {
-    let mut tally = t;
+fn positions_all(tally: &mut Tally) {
     let mut x: u64 = 1234567;
-    let mut p: u64 = 0;
-    while p < 6561 {
+    for p in 0..6561 {
         x = stir(x);
-        let a = positions_of(tally, p);
-        let parts = positions::split(x);
-        let b = compare(a, parts.position as u64, plain::position(x, 0, 0));
-        tally = positions_of(b, x);
-        p += 1;
+        positions_of(tally, p);
+        tally.compare(positions::split(x).position == plain::position(x, 0).unwrap_or(0));
+        positions_of(tally, x);
     }
-    tally
 }
 
 // That nobody reads what is printed changes nothing.
 fn main(rt: HostRuntime) {
-    let positions = positions_all(Tally {
-        compared: 0,
-        differing: 0,
-    });
-    let compared = positions.compared;
-    let differing = positions.differing;
+    let mut tally = Tally::default();
+    positions_all(&mut tally);
+    let compared = tally.compared;
+    let differing = tally.differing;
     let _ = println!(rt; "positions: {compared} compared, {differing} differ");
     if differing == 0 {
         let _ = println!(rt; "all agree");

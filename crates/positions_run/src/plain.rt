@@ -2,29 +2,25 @@
 ghost use Rattle.std.specs.Prelude.{◌<◌};
 
 // Digit k of p: p divided by 3 k times, and its remainder.
-fn digit(p: u64, k: u64) -> u64
+fn digit(p: u64, k: usize) -> u64
     ensures { result < 3 }
 {
     let mut rest = p;
-    let mut i: u64 = 0;
-    while i < k {
-        rest = rest / 3;
-        i += 1;
+    for _ in 0..k {
+        rest /= 3;
     }
     rest % 3
 }
 
 // Position k of p: each digit from the lowest up gives its position once or twice.
-pub(crate) fn position(p: u64, k: u64, none: u64) -> u64 {
+pub(crate) fn position(p: u64, k: u64) -> Option<usize> {
     let mut left = k;
-    let mut j: u64 = 0;
-    while j < 41 {
+    for j in 0..41 {
         let d = digit(p, j);
         if left < d {
-            return j;
+            return Some(j);
         }
         left -= d;
-        j += 1;
     }
-    none
+    None
 }

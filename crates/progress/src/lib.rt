@@ -7,7 +7,7 @@ use std::fs;
 use std::io::IsTerminal;
 use std::os::unix::fs::FileTypeExt;
 
-// Whether progress is shown, and whether standard output is a terminal too.
+// Whether progress is shown, and whether standard output is a terminal too: two flags, and no value beside them.
 #[derive(Clone, Copy)]
 pub struct Screen {
     pub progress: bool,
@@ -55,7 +55,8 @@ fn due(before: u64, now: u64) -> bool {
     before / SHOWN_EVERY != now / SHOWN_EVERY
 }
 
-// The line anew, where it is due. Answers whether it is there.
+// The line anew, where it is due. Answers whether it is there. Piece by piece: the library's `write!` would give up where standard error
+// has to wait, and `streams::say` tries again.
 pub fn show(rt: &HostRuntime, screen: Screen, shown: bool, before: u64, s: Session) -> bool {
     if !screen.progress || !due(before, s.points) {
         return shown;

@@ -4,8 +4,7 @@
 ghost use Rattle.std.specs.Prelude.{◌≡◌, length};
 ghost use Rattle.reader.specs.Answers.{words_after, call_of, call_code, told_after};
 
-use graphs::{TEXT_MOST, numbered};
-use reader::ReadAnswer;
+use graphs::{Fault, TEXT_MOST, numbered};
 use refusals::Refusal;
 
 // A caller that is told by words lends two of them, for n and m.
@@ -19,17 +18,21 @@ pub fn read_told(text: &[u8], words: &mut [u64], told: &mut [u64]) -> u64
         × (told.new ≡ told_after (call_of text.now (length words.old) (length told.old)) told.old) }
 {
     if text.len() > TEXT_MOST {
-        return numbered(Refusal::Long, 0);
+        return numbered(Fault {
+            why: Refusal::Long,
+            line: 0,
+        });
     }
     if told.len() != TOLD_WORDS {
-        return numbered(Refusal::Length, 0);
+        return numbered(Fault {
+            why: Refusal::Length,
+            line: 0,
+        });
     }
-    let answer = reader::read(text, words);
-    match answer {
-        ReadAnswer::Refused { why, line } => numbered(why, line),
-        ReadAnswer::Graph { n, m } => {
-            told[0] = n;
-            told[1] = m;
+    match reader::read(text, words) {
+        Err(f) => numbered(f),
+        Ok(s) => {
+            told.copy_from_slice(&[s.n, s.m]);
             0
         }
     }

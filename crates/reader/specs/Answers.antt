@@ -1,23 +1,33 @@
 -- What the reader answers, and what it leaves in the words that it was lent.
-use Rattle.std.specs.Prelude.{not, List, [], ◌∷◌, ◌++◌, ℕ, ◌*◌, eqb, ltb, length, drop}
+use Rattle.std.specs.Prelude.{not, List, [], ◌∷◌, ◌++◌, ℕ, ◌*◌, eqb, ltb, length, drop, Result, Ok, Err}
+use Rattle.refusals.specs.declared.Refusal.{Refusal}
 use Rattle.refusals.specs.declared.Refusal.TheVariants as why
 use Rattle.refusals.specs.Refusal.{number_of}
 use Rattle.tables.specs.Monomials.{count_of}
 use Rattle.tables.specs.Words.{words_of}
 use Rattle.graphs.specs.Reading.{text_most, Outcome, graph, refused, number_at, refuse_at, outcome_of}
-use Rattle.reader.specs.declared.ReadAnswer.{ReadAnswer}
-use Rattle.reader.specs.declared.ReadAnswer.TheVariants as answer
+use Rattle.graphs.specs.declared.Fault.{Fault}
+use Rattle.reader.specs.declared.Sizes.{Sizes}
 use Rattle.equations.specs.Equations.{system_of}
 
 -- the answer: n and m, or why not and the line
+abbrev pub ReadAnswer : Type 0
+ReadAnswer = Result Sizes Fault
+
+abbrev pub read_graph : ℕ → ℕ → ReadAnswer
+read_graph n m = Ok (record { n = n; m = m })
+
+abbrev pub read_refused : Refusal → ℕ → ReadAnswer
+read_refused r k = Err (record { why = r; line = k })
+
 abbrev pub answer_of : Outcome → ReadAnswer
-answer_of (graph v es) = answer.Graph v (length es)
-answer_of (refused r k) = answer.Refused r k
+answer_of (graph v es) = read_graph v (length es)
+answer_of (refused r k) = read_refused r k
 
 -- document 01's number and values of an answer: 0, n and m; or the refusal's number and its line
 abbrev pub read_told : ReadAnswer → List ℕ
-read_told (answer.Graph n m) = 0 ∷ n ∷ m ∷ []
-read_told (answer.Refused r k) = number_of r ∷ k ∷ []
+read_told (Ok s) = 0 ∷ s.n ∷ s.m ∷ []
+read_told (Err f) = number_of f.why ∷ f.line ∷ []
 
 -- what has to be told of a text
 abbrev pub outcome_told : Outcome → List ℕ

@@ -2,8 +2,7 @@
 use Rattle.std.specs.Prelude.{◌≡◌, List, [], ◌∷◌, ℕ}
 use Rattle.refusals.specs.declared.Refusal.TheVariants as why
 use Rattle.graphs.specs.Reading.{words_least, Outcome, refused, outcome_of}
-use Rattle.reader.specs.Answers.{answer_of, words_after}
-use Rattle.reader.specs.declared.ReadAnswer.TheVariants as answer
+use Rattle.reader.specs.Answers.{read_graph, answer_of, words_after}
 
 -- "p edge 2 1", "e 1 2", each with its line feed
 abbrev pub problem : List ℕ → List ℕ
@@ -21,15 +20,15 @@ outcome t = outcome_of t words_least
 
 pub record Cases : Type 0 where
   -- "p edge 2 1", "e 1 2" is read to n = 2 and m = 1, and the words of 2,0,0,1,1,1
-  pub read : answer_of (outcome (problem (edge 49 50 []))) ≡ answer.Graph 2 1
+  pub read : answer_of (outcome (problem (edge 49 50 []))) ≡ read_graph 2 1
   pub words : words_after (outcome (problem (edge 49 50 []))) [] ≡ 1 ∷ 1 ∷ 0 ∷ 0 ∷ 0 ∷ 0 ∷ 1 ∷ 0 ∷ 1 ∷ 0 ∷ 1 ∷ 0 ∷ []
   -- the last line feed may be missing, and the ends may stand in either order
-  pub unended : answer_of (outcome (problem (101 ∷ 32 ∷ 50 ∷ 32 ∷ 49 ∷ []))) ≡ answer.Graph 2 1
+  pub unended : answer_of (outcome (problem (101 ∷ 32 ∷ 50 ∷ 32 ∷ 49 ∷ []))) ≡ read_graph 2 1
   -- no text, and an empty line
   pub nothing : outcome [] ≡ refused why.Order 0
   pub empty_line : outcome (10 ∷ []) ≡ refused why.Shape 1
   -- "c" alone, "c " with a carriage return, and "c" with one
-  pub comment : answer_of (outcome (99 ∷ 10 ∷ 99 ∷ 32 ∷ 13 ∷ 10 ∷ problem (edge 49 50 []))) ≡ answer.Graph 2 1
+  pub comment : answer_of (outcome (99 ∷ 10 ∷ 99 ∷ 32 ∷ 13 ∷ 10 ∷ problem (edge 49 50 []))) ≡ read_graph 2 1
   pub return : outcome (99 ∷ 13 ∷ 10 ∷ []) ≡ refused why.Shape 1
   -- an e line before the p line, a second p line, and none at the end
   pub early : outcome (edge 49 50 (problem [])) ≡ refused why.Order 1
@@ -43,7 +42,7 @@ pub record Cases : Type 0 where
   pub vertex_past : outcome (problem (edge 49 51 [])) ≡ refused why.Vertex 2
   pub loop : outcome (problem (edge 49 49 [])) ≡ refused why.Vertex 2
   -- the same edge again, and the other way round, gives no equation; the declared number is that of the lines
-  pub again : answer_of (outcome (declared 50 (edge 49 50 (edge 49 50 [])))) ≡ answer.Graph 2 1
+  pub again : answer_of (outcome (declared 50 (edge 49 50 (edge 49 50 [])))) ≡ read_graph 2 1
   pub turned : words_after (outcome (declared 51 (edge 49 50 (edge 50 49 (edge 49 50 []))))) [] ≡ words_after (outcome (problem (edge 49 50 []))) []
   pub lines : outcome (problem (edge 49 50 (edge 50 49 []))) ≡ refused why.Count 3
   pub more_lines : outcome (declared 51 (edge 49 50 (edge 50 49 []))) ≡ refused why.Count 0

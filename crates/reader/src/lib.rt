@@ -8,50 +8,44 @@ ghost use Rattle.graphs.specs.Reading.{text_most, outcome_of};
 ghost use Rattle.reader.specs.Answers.{answer_of, words_after, read_told, outcome_told};
 
 use equations::write;
-use graphs::TEXT_MOST;
-use refusals::{Refusal, Verdict};
+use graphs::{Fault, TEXT_MOST};
+use refusals::Refusal;
 use scans::read_lines;
 
 // The reader is lent at least so many words: those of a table of 20 unknowns.
 pub const WORDS_LEAST: usize = 462;
 
-// The graph's unknowns and equations, or why there are none and in which line: 0 where no line applies.
-#[derive(Drop)]
-pub enum ReadAnswer {
-    Graph { n: u64, m: u64 },
-    Refused { why: Refusal, line: u64 },
+// How many unknowns and equations a graph's system has.
+#[derive(Clone, Copy, PartialEq, Eq)]
+pub struct Sizes {
+    pub n: u64,
+    pub m: u64,
 }
 
 // Reads a graph file and writes its coefficient words to the front of the words lent. A refusal writes nothing.
-pub fn read(text: &[u8], words: &mut [u64]) -> ReadAnswer
+pub fn read(text: &[u8], words: &mut [u64]) -> Result<Sizes, Fault>
     ensures { (result ≡ answer_of (outcome_of text.now (length words.old)))
         × (words.new ≡ words_after (outcome_of text.now (length words.old)) words.old)
         × (read_told result ≡ outcome_told (outcome_of text.now (length words.old))) }
 {
     if text.len() > TEXT_MOST {
-        return ReadAnswer::Refused {
+        return Err(Fault {
             why: Refusal::Long,
             line: 0,
-        };
+        });
     }
     if words.len() < WORDS_LEAST {
-        return ReadAnswer::Refused {
+        return Err(Fault {
             why: Refusal::Length,
             line: 0,
-        };
+        });
     }
-    let s = read_lines(text);
-    let verdict = s.verdict;
-    let line = s.line;
-    let graph = s.graph;
-    match verdict {
-        Verdict::Refused(why) => ReadAnswer::Refused { why, line },
-        Verdict::Done => {
-            let n = graph.vertices;
-            let m = graph.count;
-            let used = tables::words(n);
-            write(&mut words[..used], graph);
-            ReadAnswer::Graph { n, m }
-        }
-    }
+    let s = read_lines(text)?;
+    let n = s.graph.vertices;
+    let used = tables::words(n);
+    write(&mut words[..used], s.graph);
+    Ok(Sizes {
+        n,
+        m: s.graph.count,
+    })
 }

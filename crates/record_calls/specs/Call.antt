@@ -1,6 +1,6 @@
 -- What opening into lent words gives: document 01's number, and the words after, which a refusal leaves as they were.
 use Rattle.std.specs.Prelude.{List, ℕ, length}
-use Rattle.refusals.specs.declared.Verdict.{Verdict}
+use Rattle.refusals.specs.Refusal.{Verdict}
 use Rattle.refusals.specs.Limits as limits
 use Rattle.refusals.specs.Refusal.{after}
 use Rattle.given.specs.Given.{Given}

@@ -8,27 +8,24 @@ ghost use Rattle.given.specs.Given.{table_told};
 ghost use Rattle.record_calls.specs.Call.{open_call, open_after};
 
 use gray::Place;
-use refusals::RECORD_WORDS;
+use refusals::{RECORD_WORDS, Refusal};
 
 // The record of a table at a place, as 465 words. The number of the table's words tells its degree.
 pub fn open(n: u64, m: u64, table: &[u64], place: u64, record: &mut [u64]) -> u64
     ensures { (result ≡ code_of (open_call (table_told n m table.now) place «record».old))
         × («record».new ≡ open_after (table_told n m table.now) place «record».old) }
 {
-    let v = lent::room_for(n, m, record.len(), RECORD_WORDS);
-    let refused = refusals::code(v);
-    if refused != 0 {
-        return refused;
-    }
-    let p = Place(place);
+    refusals::code(put(n, m, table, Place(place), record))
+}
+
+// The same, which says why it refuses.
+fn put(n: u64, m: u64, table: &[u64], place: Place, record: &mut [u64]) -> Result<(), Refusal>
+    ensures { (result ≡ open_call (table_told n m table.now) place.0 «record».old)
+        × («record».new ≡ open_after (table_told n m table.now) place.0 «record».old) }
+{
+    lent::room_for(n, m, record.len(), RECORD_WORDS)?;
     let degree = given::degree_of(n, table.len());
-    let o = opening::open(degree, n, m, table, p);
-    let said = o.verdict;
-    let number = refusals::code(said);
-    if number != 0 {
-        return number;
-    }
-    let r = o.record;
+    let r = opening::open(degree, n, m, table, place)?;
     wire_out::put_record(r, record);
-    0
+    Ok(())
 }

@@ -58,7 +58,7 @@ pub fn sizes_fit(n: u64, m: u64) -> bool
     m <= MOST_EQUATIONS
 }
 
-#[derive(Clone, Copy)]
+#[derive(Clone, Copy, PartialEq, Eq)]
 pub enum Refusal {
     // n is not 1 to 20, or m is not 1 to 64.
     Size,
@@ -115,19 +115,12 @@ pub fn number(r: Refusal) -> u64
     }
 }
 
-// What an operation says that writes its result into what it was lent.
-#[derive(Clone, Copy)]
-pub enum Verdict {
-    Done,
-    Refused(Refusal),
-}
-
 // 0 where nothing was refused, else document 01's number.
-pub fn code(v: Verdict) -> u64
+pub fn code(v: Result<(), Refusal>) -> u64
     ensures { result ≡ code_of v }
 {
     match v {
-        Verdict::Done => 0,
-        Verdict::Refused(r) => number(r),
+        Ok(()) => 0,
+        Err(r) => number(r),
     }
 }

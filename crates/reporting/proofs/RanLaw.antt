@@ -1,4 +1,5 @@
 -- A call that nothing refuses, of either degree: what a walk leaves, reported, is the call on the walk of the system.
+use Rattle.std.specs.Prelude.{Ok}
 use mathlib.Core.Path.{◌≡◌, ap, ap₂, ◌∙◌}
 use mathlib.Core.List.{List}
 use Prim.Native.Nat.{ℕ, ◌+◌, ◌-◌, ◌^◌}
@@ -8,7 +9,6 @@ use Rattle.walks.specs.Calls.{Trail, stop_from, points_in, report_of, list_after
 use Rattle.given.specs.Given.{Given}
 use Rattle.opening.specs.declared.Record.{Record}
 use Rattle.outcomes.specs.declared.Moved.{Moved}
-use Rattle.outcomes.specs.declared.Answer.TheVariants as answer
 use Rattle.outcomes.specs.Search.{trail_behind, ran_of}
 use Rattle.outcomes.specs.First.{outcome_with}
 use Rattle.outcomes.proofs.TrailLaw.{place_opened}
@@ -40,7 +40,7 @@ module _ (g : Given) where
           let e3 = h.additions in
           let e4 = h.found in
           let e5 = h.opened in
-          λ i. record { answer = answer.Ran (record { stop = e1 i; points = e2 i; additions = e3 i; found = e4 i }); «record» = e5 i }
+          λ i. record { answer = Ok (record { stop = e1 i; points = e2 i; additions = e3 i; found = e4 i }); «record» = e5 i }
 
       pub ran_is : (e : ℕ) (o : Moved) → e ≡ 3 ^ g.n → o ≡ reported_of p e (length l) w
           → (outcome_with g.degree o s ≡ ran_of g p b (length l)) × (k ≡ list_after T b p l)

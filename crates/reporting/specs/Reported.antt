@@ -1,7 +1,6 @@
 -- What is reported of a walk: for the code alone; a reader goes by outcomes/specs/Search.
-use Rattle.std.specs.Prelude.{ℕ, ◌-◌}
+use Rattle.std.specs.Prelude.{ℕ, ◌-◌, Ok}
 use Rattle.walks.specs.Calls.{stop_from}
-use Rattle.outcomes.specs.declared.Answer.TheVariants as answer
 use Rattle.outcomes.specs.declared.Moved.{Moved}
 use Rattle.walking.specs.declared.Went.{Went}
 
@@ -9,6 +8,6 @@ use Rattle.walking.specs.declared.Went.{Went}
 abbrev pub reported_of : ℕ → ℕ → ℕ → Went → Moved
 reported_of p e c w =
     record {
-      answer = answer.Ran (record { stop = stop_from w.first.place.0 e w.found c; points = w.first.place.0 - p; additions = w.additions; found = w.found });
+      answer = Ok (record { stop = stop_from w.first.place.0 e w.found c; points = w.first.place.0 - p; additions = w.additions; found = w.found });
       first = w.first;
     }

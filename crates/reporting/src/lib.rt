@@ -11,7 +11,7 @@ ghost use Rattle.reporting.specs.Reported.{reported_of};
 
 use given::Degree;
 use opening::First;
-use outcomes::{Answer, Moved, stop_of};
+use outcomes::{Moved, stop_of};
 use walking::{Went, walked};
 use walks::Report;
 
@@ -24,7 +24,7 @@ fn reported(from: u64, end: u64, len: usize, t: Went) -> Moved
     let at = first.place.0;
     let stop = stop_of(at, end, t.found, len);
     Moved {
-        answer: Answer::Ran(Report {
+        answer: Ok(Report {
             stop,
             points: at - from,
             additions: t.additions,

@@ -8,8 +8,7 @@ use native.Mathlib.Omega.{arith}
 use lib.Dec.{ltb}
 use lib.ListN.{length, length-append}
 use borrow.Author.Tests.{ltb-true, le-ltb, lt-leb, ne_eqb}
-use Rattle.refusals.specs.declared.Verdict.{Verdict}
-use Rattle.refusals.specs.declared.Verdict.TheVariants.{Done}
+use Rattle.refusals.specs.Refusal.{Verdict, done}
 use Rattle.lines.specs.Lines.{lines_of}
 use Rattle.lines.proofs.SplitLaw.{lines_none}
 use Rattle.lines.proofs.ReturnLaw.{other_true}
@@ -123,11 +122,11 @@ module _ (h : ℕ → ℕ → Bool) where
 taken : (v e j : ℕ) (es : List Ends) (a b : ℕ) → Edged v (record { one = a; other = b }) → j < e → has_edge es a b ≡ false → length es < edges_most
     → take_line (declared v e j es) (Edge a b) ≡ on (declared v e (j + 1) (es ++ (record { one = a; other = b } ∷ [])))
 taken v e j es a b g l n m =
-    sym (later_edge {q = true} v e j es refl a b (fits g.one_least g.one_most g.other_least g.other_most g.apart))
+    sym (later_edge v e j es a b (fits g.one_least g.one_most g.other_least g.other_most g.apart))
     ∙ ap (λ (f : Verdict). carry f (declared v e (j + 1) (take_once es a b))) (full_room es a b m)
     ∙ ap (λ (xs : List Ends). on (declared v e (j + 1) xs)) (once_new es a b n)
   where
-    fits : 1 ≤ a → a ≤ v → 1 ≤ b → b ≤ v → (a ≡ b → ⊥) → edge_fault v e j a b ≡ Done
+    fits : 1 ≤ a → a ≤ v → 1 ≤ b → b ≤ v → (a ≡ b → ⊥) → edge_fault v e j a b ≡ done
     fits p q r s d = rw (lt-leb e j l, le-ltb a 1 p, le-ltb v a q, le-ltb b 1 r, le-ltb v b s, ne_eqb a b d)
 
 module _ (h : ℕ → ℕ → Bool) (v e : ℕ) (edged : (a b : ℕ) → h a b ≡ true → Edged v (record { one = a; other = b })) (few : e ≤ edges_most) where
@@ -150,7 +149,7 @@ module _ (h : ℕ → ℕ → Bool) (v e : ℕ) (edged : (a b : ℕ) → h a b �
       ∙ ap (λ (t : List ℕ). read_lines n (declared v e j es) (lines_of t)) text_none
       ∙ ap (read_lines n (declared v e j es)) lines_none
       ∙ read_none n (declared v e j es)
-      ∙ sym (end_same {q = true} v e j es refl z)
+      ∙ sym (end_same v e j es z)
       ∙ ap (graph v) (sym (append-nil es) ∙ ap (λ (xs : List Ends). es ++ xs) (sym (cells_none h c)))
   read_cells c (suc k) n j es l q g s =
       by_test (cell_has h c) refl

@@ -3,13 +3,13 @@ use mathlib.Core.Path.{◌≡◌, refl, sym, ap, ap₂, ◌∙◌}
 use mathlib.Core.Bool.{Bool, true, false, true≢false}
 use mathlib.Core.List.{List, [], ◌∷◌, ◌++◌}
 use mathlib.Core.Logic.{by_cases}
+use Rattle.refusals.specs.Refusal.{done}
 use Prim.Native.Nat.{ℕ, ◌+◌, ◌*◌, ◌≤◌, ◌<◌}
 use native.Mathlib.Decide.{dec_lt}
 use native.Mathlib.Omega.{arith}
 use lib.ListN.{length, take, drop, length-append}
 use lib.Seq.{take-append_seam}
 use borrow.Author.Tests.{le-ltb}
-use Rattle.refusals.specs.declared.Verdict.TheVariants.{Done}
 use Rattle.lines.specs.Lines.{lines_of}
 use Rattle.lines.proofs.ReturnLaw.{other_true}
 use Rattle.shapes.specs.declared.Shape.{Shape}
@@ -38,9 +38,9 @@ text_is v es = refl
 
 -- a p line within the limits is taken
 declares : (v e : ℕ) → 1 ≤ v → v ≤ vertices_most → 1 ≤ e → e ≤ lines_most → take_line start (Problem v e) ≡ on (declared v e 0 [])
-declares v e a b c d = sym (first_problem {q = false} v e 0 [] refl v e fine)
+declares v e a b c d = sym (first_problem v e fine)
   where
-    fine : problem_fault v e ≡ Done
+    fine : problem_fault v e ≡ done
     fine = rw (le-ltb v 1 a, le-ltb vertices_most v b, le-ltb e 1 c, le-ltb lines_most e d)
 
 module _ (t : List ℕ) (v : ℕ) (es : List Ends) (o : outcome_of t words_least ≡ graph v es) where

@@ -8,7 +8,7 @@ use native.Mathlib.Decide.{dec_lt}
 use native.Mathlib.Omega.{arith}
 use lib.ListN.{length}
 use borrow.Author.Tests.{ne_eqb}
-use Rattle.lines.specs.declared.Number.TheVariants as number
+use Rattle.std.specs.Prelude.{Some, None}
 use Rattle.lines.specs.Lines.{has, number_in}
 use Rattle.lines.proofs.LineLaw.{decimal_next, decimal_end, number_plain}
 use Rattle.lines.proofs.ReturnLaw.{has_none, has_next}
@@ -17,7 +17,7 @@ use Rattle.texts.proofs.TextLaw.{decimal_one, decimal_more}
 
 -- at most two bytes that write a number, with neither a space nor a line feed among them
 pub record Spelt (x : ℕ) (s : List ℕ) : Type 0 where
-  pub value : number_in s ≡ number.Value x
+  pub value : number_in s ≡ Some x
   pub no_space : has 32 s ≡ false
   pub no_feed : has 10 s ≡ false
   pub short : length s ≤ 2
@@ -33,7 +33,7 @@ one x l =
           sym (number_plain s (omega arith) (omega arith) refl)
           ∙ decimal_next s 0 0 (omega arith) (omega arith) (omega arith)
           ∙ decimal_end s 1 (10 * 0 + ((48 + x) - 48)) (omega arith)
-          ∙ ap number.Value (let z : 10 * 0 + ((48 + x) - 48) ≡ x = omega arith in z);
+          ∙ ap Some (let z : 10 * 0 + ((48 + x) - 48) ≡ x = omega arith in z);
       no_space = digit_not 32 x [] (omega arith) (has_none 32);
       no_feed = digit_not 10 x [] (omega arith) (has_none 10);
       short = omega arith;
@@ -50,7 +50,7 @@ two x y g l m =
           ∙ decimal_next s 0 0 (omega arith) (omega arith) (omega arith)
           ∙ decimal_next s 1 (10 * 0 + ((48 + x) - 48)) (omega arith) (omega arith) (omega arith)
           ∙ decimal_end s 2 (10 * (10 * 0 + ((48 + x) - 48)) + ((48 + y) - 48)) (omega arith)
-          ∙ ap number.Value (let z : 10 * (10 * 0 + ((48 + x) - 48)) + ((48 + y) - 48) ≡ 10 * x + y = omega arith in z);
+          ∙ ap Some (let z : 10 * (10 * 0 + ((48 + x) - 48)) + ((48 + y) - 48) ≡ 10 * x + y = omega arith in z);
       no_space = digit_not 32 x ((48 + y) ∷ []) (omega arith) (digit_not 32 y [] (omega arith) (has_none 32));
       no_feed = digit_not 10 x ((48 + y) ∷ []) (omega arith) (digit_not 10 y [] (omega arith) (has_none 10));
       short = omega arith;

@@ -3,8 +3,7 @@ use Rattle.std.specs.Prelude.{◌≡◌, List, ℕ, ◌≤◌, length, take}
 use Rattle.graphs.specs.Edges.{Ends, has_edge}
 use Rattle.graphs.specs.Reading.{words_least, graph, outcome_of}
 use Rattle.tidying.specs.Tidy.{tidy_of, tidy_text}
-use Rattle.exchange.specs.Answers.{tidied, answer_of, out_after}
-use Rattle.exchange.specs.declared.TidyAnswer.TheVariants as answer
+use Rattle.exchange.specs.Answers.{tidied_to, tidied, answer_of, out_after}
 
 -- the bytes of the longest text: a p line of 13 and 64 lines of 8
 abbrev pub tidy_most : ℕ
@@ -24,4 +23,4 @@ pub record Reread (v : ℕ) (es : List Ends) : Type 0 where
   -- tidied a second time, it is written as it is, and counts no comment, no repeated edge and no line with the larger vertex first
   pub again : (room : ℕ) → length (tidy_text v es) ≤ room → tidied (tidy_text v es) room ≡ graph v (tidy_of (has_edge es))
   pub bytes : (old : List ℕ) → out_after (graph v (tidy_of (has_edge es))) old ≡ out_after (graph v es) old
-  pub none : answer_of (tidy_text v es) (graph v (tidy_of (has_edge es))) ≡ answer.Tidied (length (tidy_text v es)) 0 0 0
+  pub none : answer_of (tidy_text v es) (graph v (tidy_of (has_edge es))) ≡ tidied_to (length (tidy_text v es)) 0 0 0

@@ -7,6 +7,5 @@ ghost use Rattle.residues.specs.Residue.{Reduced};
 pub fn remainder(c: i8) -> u8
     ensures { Reduced c result }
 {
-    let r = c % 3;
-    if r < 0 { (r + 3) as u8 } else { r as u8 }
+    c.rem_euclid(3) as u8
 }

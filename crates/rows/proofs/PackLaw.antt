@@ -1,5 +1,5 @@
 -- Packing: after e rows a table holds the words of the first e equations; one row more sets one trit of every entry.
-use mathlib.Core.Path.{◌≡◌, refl, sym, ap, ◌∙◌}
+use mathlib.Core.Path.{◌≡◌, refl, sym, ap, ap₂, ◌∙◌}
 use mathlib.Core.List.{List}
 use mathlib.Core.Logic.{by_cases}
 use Prim.Native.Nat.{ℕ, ◌+◌, ◌-◌, ◌*◌, ◌%◌, ◌^◌, ◌≤◌, ◌<◌}
@@ -8,17 +8,18 @@ use native.Mathlib.Numerals.{add-one}
 use native.Mathlib.Decide.{ℕ_discrete}
 use native.Mathlib.Omega.{arith}
 use lib.IntN.{ℤ, pos}
-use lib.ListN.{length, get_or, take, drop, length-take, length-drop}
+use lib.ListN.{length, get_or, take, drop, replicate, length-take, length-drop}
+use Rattle.std.proofs.lemmas.List.{get_or-replicate, length-replicate}
 use lib.Seq.{get_or-take, get_or-drop}
 use Rattle.residues.specs.Residue.{floor_mod}
 use Rattle.trits.specs.declared.Vector.{Vector}
 use Rattle.trits.specs.Trit.{of_trits, from_bits, none}
 use Rattle.trits.specs.Words.{Put}
 use Rattle.trits.proofs.PutLaw.{put_next}
-use Rattle.tables.specs.Words.{entry, put_at, Written, packed_rows}
+use Rattle.tables.specs.Words.{entry, put_at, packed_rows}
 use Rattle.rows.specs.Parts.{RowPacked}
 use Rattle.tables.proofs.WordLaw.{entry_tabled, length_tabled}
-use Rattle.tables.proofs.WriteLaw.{length_put, entry_put, entry_other, entries_ext, written_all}
+use Rattle.tables.proofs.WriteLaw.{length_put, entry_put, entry_other, entries_ext}
 
 -- one row
 pub row_begun : (row : List ℤ) (e : ℕ) (t : List ℕ) → RowPacked row e 0 t t
@@ -72,11 +73,14 @@ module _ (N : ℕ) (rows : List ℤ) where
   unfolding of_trits from_bits
   of_none f = refl
 
-  -- no row yet: every entry is zero
-  pub packed_none : (old t : List ℕ) → length old ≡ 2 * N
-      → ((g : List ℕ) → ((k : ℕ) → k < N → entry g k ≡ none) → Written g 0 (N) old t) → t ≡ packed_rows N 0 rows
-  packed_none old t l w =
-      written_all (N) (packed_rows N 0 rows) old t (length_packed 0) l (w (packed_rows N 0 rows) (λ k h. entry_packed 0 k h ∙ of_none (at k)))
+  -- no row yet: every word is zero
+  pub packed_none : (size : ℕ) → size ≡ 2 * N → replicate size 0 ≡ packed_rows N 0 rows
+  unfolding entry
+  packed_none size l =
+      entries_ext N (replicate size 0) (packed_rows N 0 rows) (length-replicate size 0 ∙ l) (length_packed 0)
+      (λ k h.
+      ap₂ (λ (x y : ℕ). record { high = x; low = y }) (get_or-replicate size (2 * k) 0 0 (omega arith)) (get_or-replicate size (2 * k + 1) 0 0 (omega arith))
+      ∙ sym (of_none (at k)) ∙ sym (entry_packed 0 k h))
 
   -- one row more
   packed_next : (e : ℕ) (row : List ℤ) (old t : List ℕ) → e < 64 → ((k : ℕ) → k < N → get_or row k (pos 0) ≡ get_or rows (e * N + k) (pos 0))

@@ -2,25 +2,24 @@
 // Contracts cite lines/specs/Lines (what stands in a line), shapes/specs/Shapes (what a line says), graphs/specs/Reading and graphs/specs/Scans.
 #![tactic(auto)]
 
-ghost use Rattle.std.specs.Prelude.{◌≡◌, ◌≤◌, length};
+ghost use Rattle.std.specs.Prelude.{◌≡◌, ℕ, List, Some, IfOk, MatchResult, ◌≤◌, length};
 ghost use Rattle.lines.specs.Lines.{lines_of};
 ghost use Rattle.shapes.specs.Shapes.{shape_of};
 ghost use Rattle.shapes.specs.declared.Shape.TheVariants.{Edge, Problem};
-ghost use Rattle.graphs.specs.Reading.{text_most, take_line, carry, start, read_lines};
-ghost use Rattle.graphs.specs.Scans.{state_of, scan_of, edges_of, is_refused, Seen, Kept};
+ghost use Rattle.graphs.specs.Reading.{text_most, take_line, start, read_lines};
+ghost use Rattle.graphs.specs.Scans.{state_of, scan_of, edges_of, taken, turned, Seen, Kept, Held};
 
-use edges::{Taken, take_pair};
-use graphs::{Graph, Scan, edge_fault, end_fault, problem_fault};
+use edges::take_pair;
+use graphs::{Fault, Graph, Scan, edge_fault, end_fault, problem_fault};
 use lines::find;
-use refusals::{Refusal, Verdict};
+use refusals::Refusal;
 use shapes::{Shape, shape_of};
 
 // A graph of no edges yet.
-fn fresh(known: bool, vertices: u64, edges: u64) -> Graph
-    ensures { (result.known ≡ known) × (result.vertices ≡ vertices) × (result.edges ≡ edges) × (result.lines ≡ 0) × (result.count ≡ 0) }
+fn fresh(vertices: u64, edges: u64) -> Graph
+    ensures { (result.vertices ≡ vertices) × (result.edges ≡ edges) × (result.lines ≡ 0) × (result.count ≡ 0) }
 {
     Graph {
-        known,
         vertices,
         edges,
         lines: 0,
@@ -31,116 +30,57 @@ fn fresh(known: bool, vertices: u64, edges: u64) -> Graph
 }
 
 // A p line.
-fn take_problem(g: Graph, seen: &[u8; 441], v: u64, e: u64) -> Taken
-    requires { Kept g seen.now }
-    ensures { (carry result.verdict (state_of result.graph) ≡ take_line (state_of g) (Problem v e)) × Kept result.graph seen.now }
+fn take_problem(g: Option<Graph>, v: u64, e: u64) -> Result<Graph, Refusal>
+    ensures { (taken result ≡ take_line (state_of g) (Problem v e))
+        × ((s : List ℕ) → Held g s → IfOk result (λ h. Kept h s)) }
 {
-    if g.known {
-        let again = Verdict::Refused(Refusal::Order);
-        return Taken {
-            verdict: again,
-            graph: g,
-        };
+    if g.is_some() {
+        return Err(Refusal::Order);
     }
-    let f = problem_fault(v, e);
-    match f {
-        Verdict::Refused(w) => Taken {
-            verdict: Verdict::Refused(w),
-            graph: g,
-        },
-        Verdict::Done => {
-            let h = fresh(true, v, e);
-            Taken {
-                verdict: Verdict::Done,
-                graph: h,
-            }
-        }
-    }
+    problem_fault(v, e)?;
+    Ok(fresh(v, e))
 }
 
 // An e line.
-fn take_edge(g: Graph, seen: &mut [u8; 441], a: u64, b: u64) -> Taken
-    requires { Kept g seen.old }
-    ensures { (carry result.verdict (state_of result.graph) ≡ take_line (state_of g) (Edge a b)) × Kept result.graph seen.new }
+fn take_edge(g: Option<Graph>, seen: &mut [u8; 441], a: u64, b: u64) -> Result<Graph, Refusal>
+    requires { Held g seen.old }
+    ensures { (taken result ≡ take_line (state_of g) (Edge a b))
+        × MatchResult result (λ h. Kept h seen.new) (λ _. seen.new ≡ seen.old) }
 {
-    if !g.known {
-        let early = Verdict::Refused(Refusal::Order);
-        return Taken {
-            verdict: early,
-            graph: g,
-        };
-    }
-    let f = edge_fault(g.vertices, g.edges, g.lines, a, b);
-    match f {
-        Verdict::Refused(w) => Taken {
-            verdict: Verdict::Refused(w),
-            graph: g,
-        },
-        Verdict::Done => take_pair(g, seen, a, b),
-    }
+    let g = g.ok_or(Refusal::Order)?;
+    edge_fault(g.vertices, g.edges, g.lines, a, b)?;
+    take_pair(g, seen, a, b)
 }
 
 // One line.
-fn take_line(g: Graph, seen: &mut [u8; 441], line: &[u8]) -> Taken
-    requires { Kept g seen.old }
-    ensures { (carry result.verdict (state_of result.graph) ≡ take_line (state_of g) (shape_of line.now)) × Kept result.graph seen.new }
+fn take_line(g: Option<Graph>, seen: &mut [u8; 441], line: &[u8]) -> Result<Option<Graph>, Refusal>
+    requires { Held g seen.old }
+    ensures { (turned result ≡ take_line (state_of g) (shape_of line.now))
+        × MatchResult result (λ h. Held h seen.new) (λ _. seen.new ≡ seen.old) }
 {
-    let s = shape_of(line);
-    match s {
-        Shape::Comment => Taken {
-            verdict: Verdict::Done,
-            graph: g,
-        },
-        Shape::Problem { vertices, edges } => take_problem(g, seen, vertices, edges),
-        Shape::Edge { one, other } => take_edge(g, seen, one, other),
-        Shape::Unknown => Taken {
-            verdict: Verdict::Refused(Refusal::Shape),
-            graph: g,
-        },
-    }
-}
-
-// Whether it is a refusal.
-fn refused(f: Verdict) -> bool
-    ensures { result ≡ is_refused f }
-{
-    match f {
-        Verdict::Done => false,
-        Verdict::Refused(_) => true,
+    match shape_of(line) {
+        Shape::Comment => Ok(g),
+        Shape::Problem { vertices, edges } => Ok(Some(take_problem(g, vertices, edges)?)),
+        Shape::Edge { one, other } => Ok(Some(take_edge(g, seen, one, other)?)),
+        Shape::Unknown => Err(Refusal::Shape),
     }
 }
 
 // The whole text.
-pub fn read_lines(text: &[u8]) -> Scan
+pub fn read_lines(text: &[u8]) -> Result<Scan, Fault>
     requires { length text.now ≤ text_most }
-    ensures { (scan_of result ≡ read_lines 1 start (lines_of text.now)) × Seen (edges_of result.graph) result.seen }
+    ensures { (scan_of result ≡ read_lines 1 start (lines_of text.now)) × IfOk result (λ s. Seen (edges_of s.graph) s.seen) }
 {
-    let mut g = fresh(false, 0, 0);
+    let mut g = None;
     let mut seen = [0u8; 441];
-    let mut at: usize = 0;
-    let mut line: u64 = 1;
+    let mut at = 0;
+    let mut line = 1;
     while at < text.len() {
-        let end = at + find(&text[at..], 10);
-        let taken = take_line(g, &mut seen, &text[at..end]);
-        let verdict = taken.verdict;
-        let graph = taken.graph;
-        if refused(verdict) {
-            return Scan {
-                verdict,
-                line,
-                graph,
-                seen,
-            };
-        }
-        g = graph;
+        let end = at + find(&text[at..], b'\n');
+        g = take_line(g, &mut seen, &text[at..end]).map_err(|why| Fault { why, line })?;
         at = end + 1;
         line += 1;
     }
-    let verdict = end_fault(g);
-    Scan {
-        verdict,
-        line: 0,
-        graph: g,
-        seen,
-    }
+    let graph = end_fault(g).map_err(|why| Fault { why, line: 0 })?;
+    Ok(Scan { graph, seen })
 }

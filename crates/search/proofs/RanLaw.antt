@@ -1,4 +1,5 @@
 -- A call that nothing refuses, of either degree: what a walk from the opened record leaves is the call on the walk of the system.
+use Rattle.std.specs.Prelude.{Ok}
 use mathlib.Core.Path.{◌≡◌, sym, subst, ap, ap₂, ◌∙◌}
 use mathlib.Core.List.{List}
 use Prim.Native.Nat.{ℕ, ◌+◌, ◌-◌, ◌^◌}
@@ -10,7 +11,6 @@ use Rattle.given.specs.Given.{Given, table_with}
 use Rattle.opening.specs.Opened.{opened_at}
 use Rattle.opening.specs.declared.Record.{Record}
 use Rattle.outcomes.specs.declared.Outcome.{Outcome}
-use Rattle.outcomes.specs.declared.Answer.TheVariants as answer
 use Rattle.outcomes.specs.Search.{trail_behind, ran_of}
 use Rattle.outcomes.proofs.TrailLaw.{place_opened}
 use Rattle.search.specs.declared.walked.Went.{Went}
@@ -47,7 +47,7 @@ module _ (g : Given) where
           let e3 = h.additions in
           let e4 = h.found in
           let e5 = h.opened in
-          λ i. record { answer = answer.Ran (record { stop = e1 i; points = e2 i; additions = e3 i; found = e4 i }); «record» = e5 i }
+          λ i. record { answer = Ok (record { stop = e1 i; points = e2 i; additions = e3 i; found = e4 i }); «record» = e5 i }
 
       pub ran_is : (e : ℕ) (o : Outcome) → e ≡ 3 ^ g.n → o ≡ reported_of p e (length l) w → (o ≡ ran_of g p b (length l)) × (k ≡ list_after T b p l)
       ran_is e o z u = (u ∙ ap (λ (y : ℕ). reported_of p y (length l) w) z ∙ outcome_is, h.list)

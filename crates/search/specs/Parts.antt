@@ -1,11 +1,10 @@
 -- What the parts of a call give: for the code alone; a reader goes by outcomes/specs/Search.
-use Rattle.std.specs.Prelude.{◌≡◌, List, ℕ, ◌+◌, ◌-◌, length}
+use Rattle.std.specs.Prelude.{◌≡◌, List, ℕ, ◌+◌, ◌-◌, length, Ok}
 use Rattle.walks.specs.Calls.{stop_from, points_in, report_of, list_after}
 use Rattle.given.specs.Given.{Given}
 use Rattle.opening.specs.Opened.{opened_at}
 use Rattle.outcomes.specs.Search.{trail_behind}
 use Rattle.outcomes.specs.declared.Outcome.{Outcome}
-use Rattle.outcomes.specs.declared.Answer.TheVariants as answer
 use Rattle.search.specs.declared.walked.Went.{Went}
 
 -- what a walk of the table g from place p leaves, with budget b and the list l, which is k afterwards
@@ -19,6 +18,6 @@ pub record Leaves (g : Given) (p b : ℕ) (l k : List ℕ) (w : Went) : Type 0 w
 abbrev pub reported_of : ℕ → ℕ → ℕ → Went → Outcome
 reported_of p e c w =
     record {
-      answer = answer.Ran (record { stop = stop_from w.«record».place.0 e w.found c; points = w.«record».place.0 - p; additions = w.additions; found = w.found });
+      answer = Ok (record { stop = stop_from w.«record».place.0 e w.found c; points = w.«record».place.0 - p; additions = w.additions; found = w.found });
       «record» = w.«record»;
     }

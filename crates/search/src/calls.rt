@@ -11,8 +11,8 @@ use crate::parts::{first_for, joined, lent_words};
 use crate::walked::{Went, walked};
 use given::Degree;
 use opening::{First, Record};
-use outcomes::{Answer, Moved, Outcome, stop_of};
-use refusals::Verdict;
+use outcomes::{Moved, Outcome, stop_of};
+use refusals::Refusal;
 use walks::Report;
 
 // The outcome of a walk from place `from` that left t.
@@ -24,7 +24,7 @@ fn reported(from: u64, end: u64, len: usize, t: Went) -> Outcome
     let at = record.place.0;
     let stop = stop_of(at, end, t.found, len);
     Outcome {
-        answer: Answer::Ran(Report {
+        answer: Ok(Report {
             stop,
             points: at - from,
             additions: t.additions,
@@ -64,7 +64,7 @@ pub fn judged(
     r: Record,
     budget: u64,
     room: usize,
-) -> Verdict
+) -> Result<(), Refusal>
     ensures { result ≡ room_verdict (table_with degree n m table.now) r budget room }
 {
     let f = first_for(degree, r);
@@ -88,13 +88,14 @@ fn call(
     ensures { (outcome_with degree result seconds.new ≡ outcome_of (table_with degree n m table.now) (whole_of degree f seconds.old) budget list.old)
         × (list.new ≡ list_left (table_with degree n m table.now) (whole_of degree f seconds.old) budget list.old) }
 {
+    // A refusal goes with the record as it was, and so not by `?`.
     let verdict = judging::judged(degree, n, m, table, f, seconds, budget, list.len());
     match verdict {
-        Verdict::Refused(x) => Moved {
-            answer: Answer::Refused(x),
+        Err(x) => Moved {
+            answer: Err(x),
             first: f,
         },
-        Verdict::Done => reporting::ran(degree, n, m, table, f, seconds, budget, list),
+        Ok(()) => reporting::ran(degree, n, m, table, f, seconds, budget, list),
     }
 }
 

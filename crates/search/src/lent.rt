@@ -6,7 +6,8 @@ ghost use Rattle.outcomes.specs.Search.{outcome_of, list_left, Tells};
 use crate::calls::search;
 use given::Degree;
 use opening::Record;
-use outcomes::Answer;
+use refusals::Refusal;
+use walks::Report;
 
 // One call with the record lent: it comes back moved on, or as it was where the call is refused.
 pub fn search_lent(
@@ -17,7 +18,7 @@ pub fn search_lent(
     record: &mut Record,
     budget: u64,
     list: &mut [u64],
-) -> Answer
+) -> Result<Report, Refusal>
     ensures { (result ≡ (outcome_of (table_with degree n m table.now) «record».old budget list.old).answer)
         × («record».new ≡ (outcome_of (table_with degree n m table.now) «record».old budget list.old).«record»)
         × (list.new ≡ list_left (table_with degree n m table.now) «record».old budget list.old)

@@ -5,9 +5,8 @@ ghost use Rattle.outcomes.specs.First.{first_for, joined_of};
 
 use comparing::no_seconds;
 use given::Degree;
-use gray::Place;
 use opening::{First, Record};
-use outcomes::{Answer, Moved, Outcome, n_for};
+use outcomes::{Moved, Outcome, n_for};
 use refusals::SECOND_WORDS;
 
 // How many words are lent for the second slots of a record.
@@ -25,41 +24,20 @@ pub fn first_for(degree: Degree, r: Record) -> First
     ensures { result ≡ first_for degree r }
 {
     let seconds = r.seconds;
-    let zero = no_seconds(seconds);
-    let n = n_for(degree, r.n, zero);
-    let value = r.value;
-    let slots = r.slots;
-    First {
-        n,
-        m: r.m,
-        place: Place(r.place.0),
-        value,
-        slots,
-    }
+    let n = n_for(degree, r.n, no_seconds(seconds));
+    First { n, ..r.first() }
 }
 
 // What a call gives on the record r whose parts it moved: with a refusal the record is as it was.
 pub fn joined(o: Moved, r: Record, seconds: [u64; SECOND_WORDS]) -> Outcome
     ensures { result ≡ joined_of o.answer o.first r seconds }
 {
-    let answer = o.answer;
-    match answer {
-        Answer::Refused(_) => Outcome { answer, record: r },
-        Answer::Ran(_) => {
-            let f = o.first;
-            let value = f.value;
-            let slots = f.slots;
-            Outcome {
-                answer,
-                record: Record {
-                    n: f.n,
-                    m: f.m,
-                    place: Place(f.place.0),
-                    value,
-                    slots,
-                    seconds,
-                },
-            }
-        }
+    let record = match o.answer {
+        Ok(_) => o.first.with(seconds),
+        Err(_) => r,
+    };
+    Outcome {
+        answer: o.answer,
+        record,
     }
 }

@@ -6,7 +6,6 @@ ghost use Rattle.search.specs.Parts.{Leaves};
 
 use crate::parts::{first_for, lent_words};
 use given::Degree;
-use gray::Place;
 use opening::Record;
 
 // What a walk left: the record moved on, the additions made and the zeros found.
@@ -35,18 +34,8 @@ pub(crate) fn walked(
     let mut seconds = r.seconds;
     let k = lent_words(degree);
     let t = walking::walked(degree, n, m, table, end, f, &mut seconds[..k], budget, list);
-    let left = t.first;
-    let value = left.value;
-    let slots = left.slots;
     Went {
-        record: Record {
-            n: left.n,
-            m: left.m,
-            place: Place(left.place.0),
-            value,
-            slots,
-            seconds,
-        },
+        record: t.first.with(seconds),
         additions: t.additions,
         found: t.found,
     }

@@ -1,4 +1,5 @@
 -- The verdict of a call: what 1 and 2 refuse is refused, and what they pass is the search's verdict.
+use Rattle.std.specs.Prelude.{Ok, Err}
 use mathlib.Core.Path.{◌≡◌, refl, sym, ap, ◌∙◌}
 use mathlib.Core.Bool.{not, false}
 use mathlib.Core.List.{List}
@@ -8,10 +9,8 @@ use lib.ListN.{length}
 use borrow.Author.Tests.{eqb-true, eq-eqb, ne_eqb, not-false}
 use Rattle.refusals.specs.declared.Refusal.{Refusal}
 use Rattle.refusals.specs.declared.Refusal.TheVariants.{Size, Length}
-use Rattle.refusals.specs.declared.Verdict.{Verdict}
-use Rattle.refusals.specs.declared.Verdict.TheVariants.{Done, Refused}
-use Rattle.refusals.specs.Refusal.{code_of, sized, after}
-use Rattle.refusals.proofs.RefusalLaw.{code_zero, done_test, done_next, refuse_none, refused_next, refused_last, sized_within, sized_next, sized_done}
+use Rattle.refusals.specs.Refusal.{Verdict, number_of, code_of, sized, after, done}
+use Rattle.refusals.proofs.RefusalLaw.{done_test, done_next, refuse_none, refused_next, refused_last, sized_within, sized_next, sized_done}
 use Rattle.refusals.specs.Limits.{Within}
 use Rattle.codec.specs.Codec.{words_in, bytes_from, pasted}
 use Rattle.given.specs.Given.{Given}
@@ -23,7 +22,7 @@ use Rattle.search_calls.specs.Call.{bytes_told, shaped, in_words, call_verdict, 
 use Rattle.search_calls.specs.Parts.{Writes}
 
 module _ (n m a b c d : ℕ) where
-  shapes_refused : (f : Refusal) (v : Verdict) → sized n m (shaped n a b c d Done) ≡ Refused f → sized n m (shaped n a b c d v) ≡ Refused f
+  shapes_refused : (f : Refusal) (v : Verdict) → sized n m (shaped n a b c d done) ≡ Err f → sized n m (shaped n a b c d v) ≡ Err f
   shapes_refused f v e =
       refused_next (ltb n 1) Size f _ _ e λ e. refused_next (ltb 20 n) Size f _ _ e λ e. refused_next (ltb m 1) Size f _ _ e λ e.
       refused_next (ltb 64 m) Size f _ _ e λ e. refused_next (not (eqb a (bytes_told n a))) Length f _ _ e λ e.
@@ -31,22 +30,22 @@ module _ (n m a b c d : ℕ) where
       refused_last (not (eqb d 40)) Length f v e
 
   -- each return of the code that asks them
-  pub wrong_table : Within n m → (a ≡ bytes_told n a → ⊥) → Refused Length ≡ sized n m (shaped n a b c d Done)
-  wrong_table w f = sym (sized_next n m (shaped n a b c d Done) w ∙ rw (ne_eqb a (bytes_told n a) f) refl)
+  pub wrong_table : Within n m → (a ≡ bytes_told n a → ⊥) → Err Length ≡ sized n m (shaped n a b c d done)
+  wrong_table w f = sym (sized_next n m (shaped n a b c d done) w ∙ rw (ne_eqb a (bytes_told n a) f) refl)
 
-  pub wrong_record : Within n m → a ≡ bytes_told n a → (b ≡ 3720 → ⊥) → Refused Length ≡ sized n m (shaped n a b c d Done)
-  wrong_record w e f = sym (sized_next n m (shaped n a b c d Done) w ∙ rw (eq-eqb a (bytes_told n a) e, ne_eqb b 3720 f) refl)
+  pub wrong_record : Within n m → a ≡ bytes_told n a → (b ≡ 3720 → ⊥) → Err Length ≡ sized n m (shaped n a b c d done)
+  wrong_record w e f = sym (sized_next n m (shaped n a b c d done) w ∙ rw (eq-eqb a (bytes_told n a) e, ne_eqb b 3720 f) refl)
 
-  pub wrong_list : Within n m → a ≡ bytes_told n a → b ≡ 3720 → (c % 8 ≡ 0 → ⊥) → Refused Length ≡ sized n m (shaped n a b c d Done)
-  wrong_list w e g f = sym (sized_next n m (shaped n a b c d Done) w ∙ rw (eq-eqb a (bytes_told n a) e, eq-eqb b 3720 g, ne_eqb (c % 8) 0 f) refl)
+  pub wrong_list : Within n m → a ≡ bytes_told n a → b ≡ 3720 → (c % 8 ≡ 0 → ⊥) → Err Length ≡ sized n m (shaped n a b c d done)
+  wrong_list w e g f = sym (sized_next n m (shaped n a b c d done) w ∙ rw (eq-eqb a (bytes_told n a) e, eq-eqb b 3720 g, ne_eqb (c % 8) 0 f) refl)
 
-  pub wrong_answer : Within n m → a ≡ bytes_told n a → b ≡ 3720 → c % 8 ≡ 0 → (d ≡ 40 → ⊥) → Refused Length ≡ sized n m (shaped n a b c d Done)
+  pub wrong_answer : Within n m → a ≡ bytes_told n a → b ≡ 3720 → c % 8 ≡ 0 → (d ≡ 40 → ⊥) → Err Length ≡ sized n m (shaped n a b c d done)
   wrong_answer w e g h f =
-      sym (sized_next n m (shaped n a b c d Done) w ∙ rw (eq-eqb a (bytes_told n a) e, eq-eqb b 3720 g, eq-eqb (c % 8) 0 h, ne_eqb d 40 f) refl)
+      sym (sized_next n m (shaped n a b c d done) w ∙ rw (eq-eqb a (bytes_told n a) e, eq-eqb b 3720 g, eq-eqb (c % 8) 0 h, ne_eqb d 40 f) refl)
 
-  pub right : Within n m → a ≡ bytes_told n a → b ≡ 3720 → c % 8 ≡ 0 → d ≡ 40 → Done ≡ sized n m (shaped n a b c d Done)
+  pub right : Within n m → a ≡ bytes_told n a → b ≡ 3720 → c % 8 ≡ 0 → d ≡ 40 → done ≡ sized n m (shaped n a b c d done)
   right w e g h f =
-      sym (sized_next n m (shaped n a b c d Done) w ∙ rw (eq-eqb a (bytes_told n a) e, eq-eqb b 3720 g, eq-eqb (c % 8) 0 h, eq-eqb d 40 f) refl)
+      sym (sized_next n m (shaped n a b c d done) w ∙ rw (eq-eqb a (bytes_told n a) e, eq-eqb b 3720 g, eq-eqb (c % 8) 0 h, eq-eqb d 40 f) refl)
 
   -- all lengths are right, and v is asked next
   pub record Shaped : Type 0 where
@@ -60,17 +59,17 @@ module _ (n m a b c d : ℕ) where
   equal : (x y : ℕ) → not (eqb x y) ≡ false → x ≡ y
   equal x y e = eqb-true x y (not-false (eqb x y) e)
 
-  pub shapes_done : sized n m (shaped n a b c d Done) ≡ Done → Shaped
+  pub shapes_done : sized n m (shaped n a b c d done) ≡ done → Shaped
   shapes_done e =
-      let w = sized_within n m (shaped n a b c d Done) e in
-      let e1 = sized_done n m (shaped n a b c d Done) e in
+      let w = sized_within n m (shaped n a b c d done) e in
+      let e1 = sized_done n m (shaped n a b c d done) e in
       let t1 = done_test (not (eqb a (bytes_told n a))) Length _ e1 in
       let e2 = done_next (not (eqb a (bytes_told n a))) Length _ e1 in
       let t2 = done_test (not (eqb b 3720)) Length _ e2 in
       let e3 = done_next (not (eqb b 3720)) Length _ e2 in
       let t3 = done_test (not (eqb (c % 8) 0)) Length _ e3 in
       let e4 = done_next (not (eqb (c % 8) 0)) Length _ e3 in
-      let t4 = done_test (not (eqb d 40)) Length Done e4 in
+      let t4 = done_test (not (eqb d 40)) Length done e4 in
       record {
         within = w;
         table = equal a (bytes_told n a) t1;
@@ -81,14 +80,10 @@ module _ (n m a b c d : ℕ) where
             ∙ refuse_none (not (eqb (c % 8) 0)) Length _ t3 ∙ refuse_none (not (eqb d 40)) Length v t4;
       }
 
-  -- the same where they were asked by themselves, with the verdict w, whose number k is 0
-  pub shapes_passed : (w : Verdict) → w ≡ sized n m (shaped n a b c d Done) → (k : ℕ) → k ≡ code_of w → k ≡ 0 → Shaped
-  shapes_passed w e k i z = shapes_done (sym e ∙ code_zero w (sym i ∙ z))
-
 -- ---- what is written, by the verdict
 after_twice : (v : Verdict) (old new : List ℕ) → after v old new ≡ after v old (after v old new)
-after_twice Done old new = refl
-after_twice (Refused f) old new = refl
+after_twice (Ok _) old new = refl
+after_twice (Err f) old new = refl
 
 module _ (g : Given) (rec : List ℕ) (budget : ℕ) (list answer : List ℕ) where
   abbrev judged : Verdict
@@ -116,11 +111,10 @@ module _ (g : Given) (rec : List ℕ) (budget : ℕ) (list answer : List ℕ) wh
   abbrev answer_by : Verdict → List ℕ
   answer_by v = after v answer (bytes_from (answer_values (3 ^ g.n) given.answer))
 
-  pub call_refused : (w : Verdict) → w ≡ sized g.n g.m (shaped g.n (length g.words) (length rec) (length list) (length answer) Done) → (code_of w ≡ 0 → ⊥)
-      → Meets (code_of w) rec list answer
-  call_refused Done e h = absurd (h refl)
-  call_refused (Refused f) e h =
-      let i : judged ≡ Refused f = shapes_refused g.n g.m (length g.words) (length rec) (length list) (length answer) f said (sym e) in
+  pub call_refused : (f : Refusal) → sized g.n g.m (shaped g.n (length g.words) (length rec) (length list) (length answer) done) ≡ Err f
+      → Meets (number_of f) rec list answer
+  call_refused f e =
+      let i : judged ≡ Err f = shapes_refused g.n g.m (length g.words) (length rec) (length list) (length answer) f said e in
       (sym (ap code_of i), sym (ap record_by i), sym (ap list_by i), sym (ap answer_by i))
 
   pub call_done : Shaped g.n g.m (length g.words) (length rec) (length list) (length answer) → (c : ℕ) (rec' list' answer' : List ℕ)

@@ -1,12 +1,11 @@
 -- What a search on the two parts of a record writes is what the search on the record gives.
+use Rattle.std.specs.Prelude.{Ok, Err}
 use mathlib.Core.Path.{◌≡◌, refl, sym, ap, ap₂, subst, ◌∙◌}
 use mathlib.Core.List.{List, [], ◌∷◌}
 use Prim.Native.Nat.{ℕ, ◌^◌}
 use lib.ListN.{length, get_or, take}
 use Rattle.refusals.specs.declared.Refusal.{Refusal}
-use Rattle.refusals.specs.declared.Verdict.{Verdict}
-use Rattle.refusals.specs.declared.Verdict.TheVariants as verdict
-use Rattle.refusals.specs.Refusal.{code_of, after}
+use Rattle.refusals.specs.Refusal.{Verdict, code_of, after, done}
 use Rattle.walks.specs.Calls.{report_of}
 use Rattle.codec.specs.Codec.{words_in, bytes_from, pasted}
 use Rattle.codec.proofs.CodecLaw.{length_words}
@@ -14,8 +13,7 @@ use Rattle.given.specs.declared.Degree.{Degree}
 use Rattle.given.specs.Given.{Given, table_with}
 use Rattle.opening.specs.declared.Record.{Record}
 use Rattle.opening.specs.First.{lent_words, seconds_from, whole_of}
-use Rattle.outcomes.specs.declared.Answer.{Answer}
-use Rattle.outcomes.specs.declared.Answer.TheVariants as said
+use Rattle.outcomes.specs.Search.{Answer}
 use Rattle.outcomes.specs.declared.Moved.{Moved}
 use Rattle.outcomes.specs.declared.Outcome.{Outcome}
 use Rattle.outcomes.specs.Search.{trail_behind, search_verdict, ran_of, outcome_from, answer_number, answer_values}
@@ -73,10 +71,10 @@ module _ (d : Degree) (n m : ℕ) (t rec s : List ℕ) (lent : seconds_from d s 
     abbrev list_by : Record → Verdict → List ℕ
     list_by x v = after v list (pasted list 0 (bytes_from (found_in g x.place.0 budget (length l))))
 
-    refused : (f : Refusal) → search_verdict g r budget l ≡ verdict.Refused f → Writes g rec budget list answer c rec' list' answer'
+    refused : (f : Refusal) → search_verdict g r budget l ≡ Err f → Writes g rec budget list answer c rec' list' answer'
     refused f q =
-        let u : search_verdict g w budget l ≡ verdict.Refused f = parts_verdict d n m t r (seconds_long rec) s lent budget (length l) ∙ q in
-        let a : o.answer ≡ said.Refused f = ap (λ (y : Outcome). y.answer) (eo ∙ sym (away g w budget l f u).0) in
+        let u : search_verdict g w budget l ≡ Err f = parts_verdict d n m t r (seconds_long rec) s lent budget (length l) ∙ q in
+        let a : o.answer ≡ Err f = ap (λ (y : Outcome). y.answer) (eo ∙ sym (away g w budget l f u).0) in
         record {
           number = ec ∙ ap answer_number a ∙ sym (ap code_of q);
           moved = er ∙ ap (λ (y : Answer). parts_bytes y o.first s' rec) a ∙ sym (ap (λ (v : Verdict). after v rec whole) q);
@@ -85,13 +83,13 @@ module _ (d : Degree) (n m : ℕ) (t rec s : List ℕ) (lent : seconds_from d s 
         }
 
     module _ (size : length rec ≡ 3720) (twenty : length o.first.slots ≡ 20) (kept : length s' ≡ lent_words d) where
-      done : search_verdict g r budget l ≡ verdict.Done → Writes g rec budget list answer c rec' list' answer'
-      done q =
+      passed : search_verdict g r budget l ≡ done → Writes g rec budget list answer c rec' list' answer'
+      passed q =
           let i = parts_whole d n m t r (seconds_long rec) s lent budget (length l) q in
           let eo' = eo ∙ ap (λ (x : Record). outcome_in g x budget list) i in
           let u = report_of (trail_behind g) budget (length l) r.place.0 in
-          let b : (outcome_in g r budget list).answer ≡ said.Ran u = ap (λ (v : Verdict). (outcome_from v r (ran_of g r.place.0 budget (length l))).answer) q in
-          let a : o.answer ≡ said.Ran u = ap (λ (y : Outcome). y.answer) eo' ∙ b in
+          let b : (outcome_in g r budget list).answer ≡ Ok u = ap (λ (v : Verdict). (outcome_from v r (ran_of g r.place.0 budget (length l))).answer) q in
+          let a : o.answer ≡ Ok u = ap (λ (y : Outcome). y.answer) eo' ∙ b in
           let z : seconds_from d r.seconds ≡ r.seconds = sym lent ∙ ap (λ (x : Record). x.seconds) i in
           record {
             number = ec ∙ ap answer_number a ∙ sym (ap code_of q);
@@ -103,8 +101,8 @@ module _ (d : Degree) (n m : ℕ) (t rec s : List ℕ) (lent : seconds_from d s 
           }
 
       by_verdict : (v : Verdict) → search_verdict g r budget l ≡ v → Writes g rec budget list answer c rec' list' answer'
-      by_verdict (verdict.Refused f) q = refused f q
-      by_verdict verdict.Done q = done q
+      by_verdict (Err f) q = refused f q
+      by_verdict (Ok _) q = passed q
 
       pub writes : Writes g rec budget list answer c rec' list' answer'
       writes = by_verdict (search_verdict g r budget l) refl

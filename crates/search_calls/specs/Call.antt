@@ -1,7 +1,7 @@
 -- What the search over bytes gives, for every table, record, budget, list and answer whatever, all as bytes.
 use Rattle.std.specs.Prelude.{not, ◌&&◌, List, ℕ, ◌*◌, ◌/◌, ◌%◌, ◌^◌, eqb, length, get_or}
 use Rattle.refusals.specs.declared.Refusal.TheVariants.{Length}
-use Rattle.refusals.specs.declared.Verdict.{Verdict}
+use Rattle.refusals.specs.Refusal.{Verdict}
 use Rattle.refusals.specs.Choice.{pick}
 use Rattle.refusals.specs.Limits.{record_length}
 use Rattle.refusals.specs.Refusal.{refuse, sized, after}

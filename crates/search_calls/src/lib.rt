@@ -2,9 +2,8 @@
 #![tactic(auto)]
 
 ghost use Rattle.std.specs.Prelude.{◌≡◌, ◌/◌, ◌≤◌, length};
-ghost use Rattle.refusals.specs.declared.Verdict.TheVariants.{Done};
 ghost use Rattle.refusals.specs.Limits.{most_unknowns, record_length};
-ghost use Rattle.refusals.specs.Refusal.{code_of, sized};
+ghost use Rattle.refusals.specs.Refusal.{code_of, sized, done};
 ghost use Rattle.codec.specs.Codec.{words_in};
 ghost use Rattle.given.specs.Given.{table_with};
 ghost use Rattle.opening.specs.First.{lent_words};
@@ -16,11 +15,8 @@ ghost use Rattle.search_calls.specs.Parts.{Writes};
 
 use answers::ANSWER_LENGTH;
 use given::Degree;
-use gray::Place;
 use opening::First;
-use refusals::{
-    MOST_CUBIC_WORDS, MOST_WORDS, RECORD_LENGTH, Refusal, SECOND_WORDS, Verdict, sizes_fit,
-};
+use refusals::{MOST_CUBIC_WORDS, MOST_WORDS, RECORD_LENGTH, Refusal, SECOND_WORDS, sizes_fit};
 
 // How many bytes a table of n unknowns has, of the degree that its own number of bytes tells.
 fn table_bytes(n: u64, table: usize) -> usize
@@ -35,26 +31,33 @@ fn table_bytes(n: u64, table: usize) -> usize
 }
 
 // Refusals 1 and 2 over all arguments, given how many bytes each has.
-fn shapes(n: u64, m: u64, table: usize, record: usize, list: usize, answer: usize) -> Verdict
-    ensures { result ≡ sized n m (shaped n table «record» list answer Done) }
+fn shapes(
+    n: u64,
+    m: u64,
+    table: usize,
+    record: usize,
+    list: usize,
+    answer: usize,
+) -> Result<(), Refusal>
+    ensures { result ≡ sized n m (shaped n table «record» list answer done) }
 {
     if !sizes_fit(n, m) {
-        return Verdict::Refused(Refusal::Size);
+        return Err(Refusal::Size);
     }
     let bytes = table_bytes(n, table);
     if table != bytes {
-        return Verdict::Refused(Refusal::Length);
+        return Err(Refusal::Length);
     }
     if record != RECORD_LENGTH {
-        return Verdict::Refused(Refusal::Length);
+        return Err(Refusal::Length);
     }
     if list % 8 != 0 {
-        return Verdict::Refused(Refusal::Length);
+        return Err(Refusal::Length);
     }
     if answer != ANSWER_LENGTH {
-        return Verdict::Refused(Refusal::Length);
+        return Err(Refusal::Length);
     }
-    Verdict::Done
+    Ok(())
 }
 
 // The degree in which a table of so many words is read with a record whose second slot (0, 0) has the words high and low.
@@ -80,9 +83,7 @@ fn reading_of(n: u64, words: usize, record: &[u8]) -> Degree
 {
     let mut pair = [0u64; 2];
     wire::read_seconds(record, &mut pair);
-    let high = pair[0];
-    let low = pair[1];
-    reading(n, words, high, low)
+    reading(n, words, pair[0], pair[1])
 }
 
 // The first part with which a record of 3,720 bytes is given to a call.
@@ -91,17 +92,8 @@ fn first_in(degree: Degree, record: &[u8]) -> First
     ensures { result ≡ first_for degree (record_in «record».now) }
 {
     let f = wire::read_first(record);
-    let zero = wire::no_seconds(record);
-    let n = outcomes::n_for(degree, f.n, zero);
-    let value = f.value;
-    let slots = f.slots;
-    First {
-        n,
-        m: f.m,
-        place: Place(f.place.0),
-        value,
-        slots,
-    }
+    let n = outcomes::n_for(degree, f.n, wire::no_seconds(record));
+    First { n, ..f }
 }
 
 // The search of a degree over bytes: the table's words are read into `words` first, and those of the record's second slots into `seconds`.
@@ -126,9 +118,7 @@ fn over_words(
     wire::read_seconds(record, seconds);
     let o = lists::search_parts(degree, n, m, &words[..k], f, seconds, budget, list);
     let end = positions::power(n);
-    let said = o.answer;
-    let moved = o.first;
-    answers::finish_parts(end, said, moved, seconds, record, answer)
+    answers::finish_parts(end, o.answer, o.first, seconds, record, answer)
 }
 
 // The search over bytes, with room for the words of a table and of second slots of its degree: of degree 2 there are none of these.
@@ -196,10 +186,8 @@ pub fn search(
         × (list.new ≡ list_bytes_after (table_lent n m table.now «record».old) «record».old budget list.old answer.old)
         × (answer.new ≡ answer_bytes_after (table_lent n m table.now «record».old) «record».old budget list.old answer.old) }
 {
-    let v = shapes(n, m, table.len(), record.len(), list.len(), answer.len());
-    let refused = refusals::code(v);
-    if refused != 0 {
-        return refused;
+    match shapes(n, m, table.len(), record.len(), list.len(), answer.len()) {
+        Err(r) => refusals::number(r),
+        Ok(()) => over_bytes(n, m, table, record, budget, list, answer),
     }
-    over_bytes(n, m, table, record, budget, list, answer)
 }

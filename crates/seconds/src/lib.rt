@@ -15,16 +15,9 @@ ghost use Rattle.seconds.specs.Seconds.{Seconds};
 ghost use Rattle.seconds.specs.Parts.{counted_to, Filled};
 
 use cubic_tables::{key, pair};
-use refusals::MOST_UNKNOWNS;
-use tables::{index, vector};
+use refusals::{MOST_UNKNOWNS, SECOND_WORDS};
+use tables::{index, put_entry, vector};
 use trits::{Vector, add, times};
-
-// q less a, or 0 where a is more.
-pub fn less(q: u64, a: u64) -> u64
-    ensures { result ≡ q - a }
-{
-    if q < a { 0 } else { q - a }
-}
 
 // The entry of b, c, and that of b, c, c, if there is one, as often as places began with these; y is what is left of the place, over 3 to the c.
 fn seed(table: &[u64], n: usize, b: usize, c: usize, base: usize, y: u64) -> Vector
@@ -49,49 +42,42 @@ fn second(table: &[u64], n: usize, b: usize, c: usize, base: usize, rest: u64, p
     let mut y = rest / power;
     let mut v = seed(table, n, b, c, base, y);
     y = y / 3;
-    let mut d = c + 1;
-    while d < n {
+    for d in c + 1..n {
         let z = y / 3;
         let w = times(vector(table, base + d), y - z);
         v = add(v, w);
         y = z;
-        d += 1;
     }
     v
 }
 
 // The second slots of the pairs of which b is the first; first is 3 to the b.
-fn row(table: &[u64], n: usize, b: usize, q: u64, first: u64, out: &mut [u64; 420])
+fn row(table: &[u64], n: usize, b: usize, q: u64, first: u64, out: &mut [u64; SECOND_WORDS])
     requires { (n ≤ most_unknowns) × (b < n) × (q < 3 ^ n) × (length table.now ≡ 2 * cubic_count n) × (first ≡ 3 ^ b) }
     ensures { Filled n table.now q b b out.old → Filled n table.now q b n out.new }
 {
     let kb = key(n, b);
-    let left = less(q, first);
+    let left = q.saturating_sub(first);
     let mut power = first;
-    let mut c = b;
-    while c < n {
+    for c in b..n {
         let base = kb + (pair(n, c, c) - c);
-        let v = second(table, n, b, c, base, less(left, power), power);
-        let at = 2 * pair(MOST_UNKNOWNS, b, c);
-        out[at] = v.high;
-        out[at + 1] = v.low;
-        power = power * 3;
-        c += 1;
+        let v = second(table, n, b, c, base, left.saturating_sub(power), power);
+        let k = pair(MOST_UNKNOWNS, b, c);
+        put_entry(out, k, v);
+        power *= 3;
     }
 }
 
 // The second slots of a checked cubic table after place q.
-pub fn seconds_at(table: &[u64], n: usize, q: u64) -> [u64; 420]
+pub fn seconds_at(table: &[u64], n: usize, q: u64) -> [u64; SECOND_WORDS]
     requires { (n ≤ most_unknowns) × (q < 3 ^ n) × (length table.now ≡ 2 * cubic_count n) }
     ensures { Seconds n table.now q result }
 {
-    let mut s = [0u64; 420];
+    let mut s = [0u64; SECOND_WORDS];
     let mut power: u64 = 1;
-    let mut b: usize = 0;
-    while b < n {
+    for b in 0..n {
         row(table, n, b, q, power, &mut s);
-        power = power * 3;
-        b += 1;
+        power *= 3;
     }
     s
 }

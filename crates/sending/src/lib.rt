@@ -34,15 +34,15 @@ fn walk_graph(
     let screen = progress::look(rt);
     let d = drive(rt, out, s, table, list, text, first, screen);
     progress::clear(rt, screen);
-    if !d.all {
+    let Some(totals) = d.totals else {
         return Ending {
-            told: 0,
+            told: None,
             sent: d.sent,
             closed: false,
         };
-    }
+    };
     let head = listing::put_head(text, s.n, s.m);
-    let told = listing::put_totals(text, head, d.points, d.additions, d.found);
+    let told = listing::put_totals(text, head, totals.points, totals.additions, totals.found);
     endings::concluded(rt, told, d.sent)
 }
 
@@ -59,20 +59,21 @@ pub fn run(
     requires { (length words.old ≡ most_words) × (length table.old ≡ most_words) × (length list.old ≡ piece_entries) × (length text.old ≡ text_bytes) }
     ensures { Ends input.now text.new result }
 {
-    let s = planner::begin(input, words, table, text);
-    let used = s.used;
-    let got = streams::send(out, &text[..used]);
-    let first = got as u64;
-    if got < used {
-        return Ending {
-            told: 0,
-            sent: first,
-            closed: false,
-        };
+    match planner::begin(input, words, table, text) {
+        Ok(s) => {
+            let used = s.used;
+            let got = streams::send(out, &text[..used]);
+            let first = got as u64;
+            if got < used {
+                return Ending {
+                    told: None,
+                    sent: first,
+                    closed: false,
+                };
+            }
+            let size = tables::words(s.n);
+            walk_graph(rt, out, s, &table[..size], list, text, first)
+        }
+        Err(used) => endings::deliver(rt, out, &text[..used], used),
     }
-    if !s.open {
-        return endings::concluded(rt, used, first);
-    }
-    let size = tables::words(s.n);
-    walk_graph(rt, out, s, &table[..size], list, text, first)
 }

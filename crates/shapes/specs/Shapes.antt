@@ -1,8 +1,6 @@
 -- The shapes of a graph file's lines.
-use Rattle.std.specs.Prelude.{Bool, true, false, List, [], ◌∷◌, ℕ, drop}
-use Rattle.lines.specs.declared.Pair.{Pair}
-use Rattle.lines.specs.declared.Pair.TheVariants as pair
-use Rattle.lines.specs.Lines.{pair_in, starts, is_comment}
+use Rattle.std.specs.Prelude.{Bool, true, false, List, [], ◌∷◌, ℕ, drop, Some, None}
+use Rattle.lines.specs.Lines.{Pair, pair_in, starts, is_comment}
 use Rattle.shapes.specs.declared.Shape.{Shape}
 use Rattle.shapes.specs.declared.Shape.TheVariants.{Comment, Problem, Edge, Unknown}
 
@@ -14,12 +12,12 @@ abbrev pub edge_front : List ℕ
 edge_front = 101 ∷ 32 ∷ []
 
 abbrev pub as_problem : Pair → Shape
-as_problem (pair.Both v e) = Problem v e
-as_problem pair.Wrong = Unknown
+as_problem (Some (v, e)) = Problem v e
+as_problem None = Unknown
 
 abbrev pub as_edge : Pair → Shape
-as_edge (pair.Both a b) = Edge a b
-as_edge pair.Wrong = Unknown
+as_edge (Some (a, b)) = Edge a b
+as_edge None = Unknown
 
 abbrev pub pick_shape : Bool → Shape → Shape → Shape
 pick_shape true x y = x

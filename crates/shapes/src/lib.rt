@@ -4,10 +4,10 @@
 ghost use Rattle.std.specs.Prelude.{◌≡◌};
 ghost use Rattle.shapes.specs.Shapes.{as_problem, as_edge, shape_of};
 
-use lines::{Pair, begins, comment, pair_in};
+use lines::{begins, comment, pair_in};
 
 // What a line says. A line of no known shape is unknown.
-#[derive(Drop)]
+#[derive(Clone, Copy, PartialEq, Eq)]
 pub enum Shape {
     Comment,
     Problem { vertices: u64, edges: u64 },
@@ -15,24 +15,21 @@ pub enum Shape {
     Unknown,
 }
 
-fn problem_line(p: Pair) -> Shape
+fn problem_line(p: Option<(u64, u64)>) -> Shape
     ensures { result ≡ as_problem p }
 {
     match p {
-        Pair::Both { one, other } => Shape::Problem {
-            vertices: one,
-            edges: other,
-        },
-        Pair::Wrong => Shape::Unknown,
+        Some((vertices, edges)) => Shape::Problem { vertices, edges },
+        None => Shape::Unknown,
     }
 }
 
-fn edge_line(p: Pair) -> Shape
+fn edge_line(p: Option<(u64, u64)>) -> Shape
     ensures { result ≡ as_edge p }
 {
     match p {
-        Pair::Both { one, other } => Shape::Edge { one, other },
-        Pair::Wrong => Shape::Unknown,
+        Some((one, other)) => Shape::Edge { one, other },
+        None => Shape::Unknown,
     }
 }
 

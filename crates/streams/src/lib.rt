@@ -23,7 +23,7 @@ pub const READER_GONE: u8 = 141;
 // So often a call is tried again, 2^62: no machine lasts so long, and so each function ends.
 const TRIES: u64 = 4611686018427387904;
 
-// Standard output, and whether a write found that nobody reads it any more.
+// Standard output, and whether a write found that nobody reads it any more: a flag, for the error itself goes to who called.
 #[derive(Drop)]
 pub struct Output {
     to: Stdout,
@@ -32,13 +32,11 @@ pub struct Output {
 
 impl Write for Output {
     fn write(&mut self, buf: &[u8]) -> std::io::Result<usize> {
-        match self.to.write(buf) {
-            Ok(taken) => Ok(taken),
-            Err(e) => {
-                self.gone = e.kind() == ErrorKind::BrokenPipe;
-                Err(e)
-            }
+        let taken = self.to.write(buf);
+        if let Err(e) = &taken {
+            self.gone = e.kind() == ErrorKind::BrokenPipe;
         }
+        taken
     }
 
     fn flush(&mut self) -> std::io::Result<()> {
@@ -56,13 +54,6 @@ impl Output {
     }
 }
 
-// What a reader gave: so many bytes, or a read that failed.
-#[derive(Drop)]
-pub enum Input {
-    Bytes(usize),
-    Failed,
-}
-
 // Whether what a call answered may be otherwise a moment later.
 fn passing(why: ErrorKind) -> bool {
     why == ErrorKind::WouldBlock || why == ErrorKind::Interrupted
@@ -73,7 +64,7 @@ fn rest() {
     thread::yield_now();
 }
 
-// How many tries are left after a call that failed: one fewer if it may be tried again, none otherwise.
+// How many tries are left after a call that failed: one fewer if it may be tried again, none otherwise. A count, and so no `Option`.
 fn tries_after(why: ErrorKind, tries: u64) -> u64
     requires { 1 ≤ tries }
     ensures { result < tries }
@@ -85,25 +76,25 @@ fn tries_after(why: ErrorKind, tries: u64) -> u64
     tries - 1
 }
 
-// Reads until the buffer is full or the input ends.
-pub fn receive<R: Read>(from: &mut R, buf: &mut [u8]) -> Input
+// Reads until the buffer is full or the input ends; how many bytes came.
+pub fn receive<R: Read>(from: &mut R, buf: &mut [u8]) -> std::io::Result<usize>
     ensures { bytes_of result ≤ length buf.new }
 {
     let mut done: usize = 0;
     let mut tries = TRIES;
     while done < buf.len() {
         match from.read(&mut buf[done..]) {
-            Ok(0) => return Input::Bytes(done),
+            Ok(0) => return Ok(done),
             Ok(more) => done += more,
             Err(e) => {
                 tries = tries_after(e.kind(), tries);
                 if tries == 0 {
-                    return Input::Failed;
+                    return Err(e);
                 }
             }
         }
     }
-    Input::Bytes(done)
+    Ok(done)
 }
 
 // Writes the buffer; how many of its bytes were taken. They are fewer than all where a write failed.
@@ -133,7 +124,7 @@ pub fn say(rt: &HostRuntime, words: &[u8]) {
     send(&mut to, words);
 }
 
-// A number among such words.
+// A number among such words. The library's `write!` would not try again.
 pub fn say_number(rt: &HostRuntime, n: u64) {
     let mut text = [0u8; 20];
     let k = io::decimal(n, &mut text);

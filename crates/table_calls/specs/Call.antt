@@ -1,16 +1,14 @@
 -- What the operations on tables give where the length of a table tells its degree: document 01's number, and the words after, which a
 -- refusal leaves as they were. For rows it is the table that is lent, from one table into another the first.
 use Rattle.std.specs.Prelude.{List, ℕ, ℤ, length}
-use Rattle.refusals.specs.declared.Verdict.{Verdict}
-use Rattle.refusals.specs.declared.Verdict.TheVariants.{Done}
-use Rattle.refusals.specs.Refusal.{after}
+use Rattle.refusals.specs.Refusal.{Verdict, after, done}
 use Rattle.given.specs.Given.{degree_told, table_told, table_verdict}
 use Rattle.operations.specs.Operations.{packing, packed_into, copying, differences_into, coefficients_into, evaluating, value_in}
 use Rattle.lent.specs.Lent.{room, vector_words}
 
 -- a table by itself
 abbrev pub check_call : ℕ → ℕ → List ℕ → Verdict
-check_call n m t = table_verdict (table_told n m t) Done
+check_call n m t = table_verdict (table_told n m t) done
 
 -- signed rows into a table
 abbrev pub pack_call : ℕ → ℕ → List ℤ → List ℕ → Verdict

@@ -4,7 +4,6 @@ use mathlib.Core.Logic.{by_cases}
 use Prim.Native.Nat.{ℕ, zero, suc, ◌+◌, ◌-◌, ◌≤◌, ◌<◌}
 use native.Mathlib.Decide.{dec_lt}
 use native.Mathlib.Omega.{arith}
-use lib.Dec.{ltb}
 use borrow.Author.Tests.{lt-ltb, le-ltb}
 use Rattle.polynomials.specs.Poly.{Poly}
 use Rattle.tables.specs.Monomials.{count_of, row_start, index_of, product_nth, nth}

@@ -1,16 +1,17 @@
 -- What each operation on tables answers, and what it leaves in the table that it was lent. Refusals in document 01's order.
-use Rattle.std.specs.Prelude.{◌≡◌, not, List, [], ◌∷◌, ℕ, ◌*◌, ◌^◌, ◌<◌, eqb, ltb, leb, ℤ, length}
+use Rattle.std.specs.Prelude.{◌≡◌, not, List, [], ◌∷◌, ℕ, ◌*◌, ◌^◌, ◌<◌, eqb, ltb, leb, ℤ, length, Ok, Err, Result}
+use Rattle.refusals.specs.declared.Refusal.{Refusal}
 use Rattle.refusals.specs.declared.Refusal.TheVariants.{Length, Pair, Range}
-use Rattle.refusals.specs.declared.Verdict.{Verdict}
-use Rattle.refusals.specs.declared.Verdict.TheVariants.{Done, Refused}
+use Rattle.refusals.specs.Refusal.{Verdict, number_of, code_of, refuse, sized, after, done}
 use Rattle.refusals.specs.Limits.{Within}
-use Rattle.refusals.specs.Refusal.{number_of, code_of, refuse, sized, after}
-use Rattle.tables.specs.declared.Evaluated.{Evaluated}
-use Rattle.tables.specs.declared.Evaluated.TheVariants as evaluated
 use Rattle.trits.specs.declared.Vector.{Vector}
 use Rattle.trits.specs.Trit.{Legal}
 use Rattle.tables.specs.Monomials.{count_of}
 use Rattle.tables.specs.Words.{entry, Entries, legal_front, packed, differences_of, coefficients_of, values_at}
+
+-- the value of each equation at a point, or why there is none
+abbrev pub Evaluated : Type 0
+Evaluated = Result Vector Refusal
 
 -- refusal 2: a table of N entries, of n unknowns, is not of its exact length
 abbrev pub long_of : ℕ → List ℕ → Verdict → Verdict
@@ -32,7 +33,7 @@ checked_then N n m t v = sized n m (long_of N t (paired_of N m t v))
 
 -- a word table by itself
 abbrev pub checked_of : ℕ → ℕ → List ℕ → Verdict
-checked_of n m t = checked_then (count_of n) n m t Done
+checked_of n m t = checked_then (count_of n) n m t done
 
 -- what it has to be, in document 01's words: n and m within their limits, of the exact length, every pair legal
 pub record AcceptedOf (N n m : ℕ) (t : List ℕ) : Type 0 where
@@ -53,7 +54,7 @@ FirstIllegal n m t k = FirstIllegalOf (count_of n) m t k
 
 -- signed rows of N numbers into a table of N entries, and of n unknowns
 abbrev pub rows_verdict : ℕ → ℕ → List ℤ → List ℕ → Verdict
-rows_verdict N m rows t = refuse (not (eqb (length rows) (m * N))) Length (long_of N t Done)
+rows_verdict N m rows t = refuse (not (eqb (length rows) (m * N))) Length (long_of N t done)
 
 abbrev pub pack_verdict : ℕ → ℕ → List ℤ → List ℕ → Verdict
 pack_verdict n m rows t = sized n m (rows_verdict (count_of n) m rows t)
@@ -63,7 +64,7 @@ pack_after n m rows t = after (pack_verdict n m rows t) t (packed n m rows)
 
 -- from one table into another, of N entries each, and of n unknowns
 abbrev pub entries_verdict : ℕ → ℕ → List ℕ → List ℕ → Verdict
-entries_verdict N m from to = long_of N from (long_of N to (paired_of N m from Done))
+entries_verdict N m from to = long_of N from (long_of N to (paired_of N m from done))
 
 abbrev pub copy_verdict : ℕ → ℕ → List ℕ → List ℕ → Verdict
 copy_verdict n m from to = sized n m (entries_verdict (count_of n) m from to)
@@ -76,32 +77,32 @@ coefficients_after n m t c = after (copy_verdict n m t c) c (coefficients_of n m
 
 -- evaluation of a table of N entries at a point, and of n unknowns
 abbrev pub point_verdict : ℕ → ℕ → ℕ → List ℕ → ℕ → Verdict
-point_verdict N n m c x = checked_then N n m c (refuse (leb (3 ^ n) x) Range Done)
+point_verdict N n m c x = checked_then N n m c (refuse (leb (3 ^ n) x) Range done)
 
 abbrev pub evaluate_verdict : ℕ → ℕ → List ℕ → ℕ → Verdict
 evaluate_verdict n m c x = point_verdict (count_of n) n m c x
 
 -- the value where nothing is refused
 abbrev pub valued : Verdict → Vector → Evaluated
-valued Done v = evaluated.Value v
-valued (Refused r) v = evaluated.Refused r
+valued (Ok _) v = Ok v
+valued (Err r) v = Err r
 
 abbrev pub evaluate_of : ℕ → ℕ → List ℕ → ℕ → Evaluated
 evaluate_of n m c x = valued (evaluate_verdict n m c x) (values_at n m c x)
 
 -- document 01's number of each answer: 0 for a value
 abbrev pub evaluated_code : Evaluated → ℕ
-evaluated_code (evaluated.Value v) = 0
-evaluated_code (evaluated.Refused r) = number_of r
+evaluated_code (Ok v) = 0
+evaluated_code (Err r) = number_of r
 
 -- and its values: high and low word, or none
 abbrev pub evaluated_words : Evaluated → List ℕ
-evaluated_words (evaluated.Value v) = v.high ∷ v.low ∷ []
-evaluated_words (evaluated.Refused r) = []
+evaluated_words (Ok v) = v.high ∷ v.low ∷ []
+evaluated_words (Err r) = []
 
 abbrev pub words_from : Verdict → Vector → List ℕ
-words_from Done v = v.high ∷ v.low ∷ []
-words_from (Refused r) v = []
+words_from (Ok _) v = v.high ∷ v.low ∷ []
+words_from (Err r) v = []
 
 -- what an evaluation with this verdict and value has to tell by them
 pub record TellsOf (u : Verdict) (v : Vector) (r : Evaluated) : Type 0 where

@@ -2,16 +2,6 @@
 // Contracts cite specs/Monomials (the order), specs/Words (what a table holds) and specs/Answers (refusals, and what is left in what was lent).
 #![tactic(auto)]
 
-use refusals::Refusal;
-use trits::Vector;
-
 mod monomials;
 
 pub use monomials::{count, entry, index, put_entry, vector, words};
-
-// The value of each equation at a point, or why there is none.
-#[derive(Drop)]
-pub enum Evaluated {
-    Value(Vector),
-    Refused(Refusal),
-}

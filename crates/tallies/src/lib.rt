@@ -10,7 +10,7 @@ use lines::find;
 use shapes::{Shape, shape_of};
 
 // How many lines there were of each kind.
-#[derive(Drop)]
+#[derive(Clone, Copy)]
 pub struct Tally {
     pub comments: u64,
     pub edges: u64,
@@ -21,10 +21,7 @@ pub struct Tally {
 fn turn(one: u64, other: u64) -> u64
     ensures { (result ≡ flag (ltb other one)) × (result ≤ 1) }
 {
-    if other < one {
-        return 1;
-    }
-    0
+    u64::from(other < one)
 }
 
 // The counts after one more line.
@@ -32,22 +29,17 @@ fn tallied(t: Tally, s: Shape) -> Tally
     requires { (t.comments ≤ text_most) × (t.edges ≤ text_most) × (t.turned ≤ text_most) }
     ensures { (result.comments ≡ t.comments + as_comment s) × (result.edges ≡ t.edges + as_edge s) × (result.turned ≡ t.turned + as_turned s) }
 {
-    let comments = t.comments;
-    let edges = t.edges;
-    let turned = t.turned;
     match s {
         Shape::Comment => Tally {
-            comments: comments + 1,
-            edges,
-            turned,
+            comments: t.comments + 1,
+            ..t
         },
         Shape::Edge { one, other } => Tally {
-            comments,
-            edges: edges + 1,
-            turned: turned + turn(one, other),
+            edges: t.edges + 1,
+            turned: t.turned + turn(one, other),
+            ..t
         },
-        Shape::Problem { .. } => t,
-        Shape::Unknown => t,
+        Shape::Problem { .. } | Shape::Unknown => t,
     }
 }
 
@@ -61,11 +53,10 @@ pub fn count_lines(text: &[u8]) -> Tally
         edges: 0,
         turned: 0,
     };
-    let mut at: usize = 0;
+    let mut at = 0;
     while at < text.len() {
-        let end = at + find(&text[at..], 10);
-        let s = shape_of(&text[at..end]);
-        t = tallied(t, s);
+        let end = at + find(&text[at..], b'\n');
+        t = tallied(t, shape_of(&text[at..end]));
         at = end + 1;
     }
     t

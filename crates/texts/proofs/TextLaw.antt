@@ -46,14 +46,6 @@ byte_turn l k v rest h =
     ∙ ap (λ (m : List ℕ). m ++ rest) (take-suc-set l k v h)
     ∙ append_assoc (take k l) (v ∷ []) rest
 
-pub copy_turn : (l : List ℕ) (at i : ℕ) (s : List ℕ) → at + i < length l → i < length s → take (at + (i + 1)) (set l (at + i) (get_or s i 0)) ++ drop (i + 1) s ≡ take (at + i) l ++ drop i s
-copy_turn l at i s h g =
-    let e : at + (i + 1) ≡ at + i + 1 = omega arith in
-    ap (λ (n : ℕ). take n (set l (at + i) (get_or s i 0)) ++ drop (i + 1) s) e
-    ∙ byte_turn l (at + i) (get_or s i 0) (drop (i + 1) s) h
-    ∙ ap (λ (n : ℕ). take (at + i) l ++ (get_or s i 0 ∷ drop n s)) (add-one i)
-    ∙ ap (λ (m : List ℕ). take (at + i) l ++ m) (sym (drop-cons s i 0 g))
-
 pub drop_all : (s : List ℕ) (i : ℕ) → i ≡ length s → drop i s ≡ []
 drop_all s i e = ap (λ (n : ℕ). drop n s) e ∙ drop-length s
 

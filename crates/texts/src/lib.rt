@@ -9,12 +9,9 @@ pub fn put(text: &mut [u8], at: usize, s: &[u8]) -> usize
     requires { at + length s.now ≤ length text.old }
     ensures { Put text.old at s.now text.new result }
 {
-    let mut i: usize = 0;
-    while i < s.len() {
-        text[at + i] = s[i];
-        i += 1;
-    }
-    at + i
+    let next = at + s.len();
+    text[at..next].copy_from_slice(s);
+    next
 }
 
 // The byte of a decimal digit.
@@ -22,7 +19,7 @@ pub fn glyph(d: u64) -> u8
     requires { d < 10 }
     ensures { result ≡ 48 + d }
 {
-    (48 + d) as u8
+    b'0' + d as u8
 }
 
 // A number in decimal digits at the end of 20 bytes; where the first digit stands.
@@ -30,11 +27,11 @@ fn spell(bytes: &mut [u8], x: u64) -> usize
     requires { length bytes.old ≡ 20 }
     ensures { (result < 20) × (length bytes.new ≡ 20) × (drop result bytes.new ≡ decimal_of x) }
 {
-    let mut i: usize = 19;
+    let mut i = 19;
     let mut rest = x;
     while rest >= 10 {
         bytes[i] = glyph(rest % 10);
-        rest = rest / 10;
+        rest /= 10;
         i -= 1;
     }
     bytes[i] = glyph(rest);

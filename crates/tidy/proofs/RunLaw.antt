@@ -11,8 +11,10 @@ use Rattle.refusals.specs.Refusal.{number_of}
 use Rattle.graphs.specs.Reading.{words_least, Outcome, graph, refused, outcome_of}
 use Rattle.texts.specs.Text.{refusal_line, Put, ended_line}
 use Rattle.tidying.specs.Tidy.{tidy_text}
-use Rattle.exchange.specs.declared.TidyAnswer.TheVariants as answer
-use Rattle.exchange.specs.Answers.{fitting, tidied, answer_of, out_after}
+use Rattle.graphs.specs.declared.Fault.{Fault}
+use Rattle.exchange.specs.declared.Tidied.{Tidied}
+use Rattle.tallies.specs.Tallies.{comments_in, repeats_in, turned_in}
+use Rattle.exchange.specs.Answers.{tidied_to, tidy_refused, fitting, tidied, answer_of, out_after}
 use Rattle.exchange.proofs.AnswerLaw.{after_graph}
 use Rattle.reread.specs.Reread.{tidy_most}
 use Rattle.reread.proofs.RereadLaw.{reread}
@@ -36,10 +38,11 @@ pub record Wrote (o : Outcome) (b : ℕ) (new : List ℕ) : Type 0 where
   pub front : take b new ≡ written_for o
   pub told : ended_line ≡ told_for o
 
-pub wrote : (t : List ℕ) (o : Outcome) (b c r k : ℕ) (old new : List ℕ) → answer.Tidied b c r k ≡ answer_of t o → new ≡ out_after o old → Wrote o b new
+pub wrote : (t : List ℕ) (o : Outcome) (b c r k : ℕ) (old new : List ℕ) → tidied_to b c r k ≡ answer_of t o → new ≡ out_after o old → Wrote o b new
 wrote t (graph v es) b c r k old new e w =
     let s = tidy_text v es in
-    let n : b ≡ length s = cc in
+    let x : ◌≡◌ {A = Tidied} (record { bytes = b; comments = c; repeated = r; turned = k }) (record { bytes = length s; comments = comments_in t; repeated = repeats_in t; turned = turned_in t }) = cc in
+    let n : b ≡ length s = ap (λ (y : Tidied). y.bytes) x in
     let is : new ≡ s ++ drop (length s) old = w ∙ after_graph v es old in
     record {
       fits = omega (arith, n, ap length is, length-append s (drop (length s) old));
@@ -49,11 +52,12 @@ wrote t (graph v es) b c r k old new e w =
 wrote t (refused f j) b c r k old new e w = absurd (let z : ◌≡◌ {A = ℕ} 0 1 = cc in omega arith)
 
 -- a refusal is written and told in the same line
-pub refused_line : (t : List ℕ) (o : Outcome) (r : Refusal) (k : ℕ) → answer.Refused r k ≡ answer_of t o → (refusal_line (number_of r) k ≡ written_for o) × (refusal_line (number_of r) k ≡ told_for o)
+pub refused_line : (t : List ℕ) (o : Outcome) (r : Refusal) (k : ℕ) → tidy_refused r k ≡ answer_of t o → (refusal_line (number_of r) k ≡ written_for o) × (refusal_line (number_of r) k ≡ told_for o)
 refused_line t (graph v es) r k e = absurd (let z : ◌≡◌ {A = ℕ} 0 1 = cc in omega arith)
 refused_line t (refused f j) r k e =
-    let p : r ≡ f = cc in
-    let q : k ≡ j = cc in
+    let x : ◌≡◌ {A = Fault} (record { why = r; line = k }) (record { why = f; line = j }) = cc in
+    let p : r ≡ f = ap (λ (y : Fault). y.why) x in
+    let q : k ≡ j = ap (λ (y : Fault). y.line) x in
     (rw (p, q) refl, rw (p, q) refl)
 
 output_is : (t : List ℕ) → output_of t ≡ written_for (outcome_of t words_least)

@@ -8,9 +8,10 @@ ghost use Rattle.reread.specs.Reread.{tidy_most};
 ghost use Rattle.tidy.specs.Output.{Runs};
 
 use endings::Ending;
-use exchange::TidyAnswer;
+use exchange::Tidied;
+use graphs::Fault;
 use std::process::ExitCode;
-use streams::{Input, Output, READER_GONE};
+use streams::{Output, READER_GONE};
 
 // The bytes of the output: as many as the longest text has.
 const OUT_BYTES: usize = 525;
@@ -22,7 +23,7 @@ const TEXT_BYTES: usize = 64;
 #[derive(Drop)]
 struct Ran {
     ending: Ending,
-    answer: TidyAnswer,
+    answer: Result<Tidied, Fault>,
 }
 
 // The whole output for an input, and its end.
@@ -32,15 +33,15 @@ fn run(rt: &HostRuntime, to: &mut Output, input: &[u8], out: &mut [u8], text: &m
 {
     let answer = exchange::tidy(input, out);
     match answer {
-        TidyAnswer::Tidied { bytes, .. } => {
-            let used = bytes as usize;
+        Ok(t) => {
+            let used = t.bytes as usize;
             let told = texts::put(text, 0, b"ended\n");
             let ending = endings::deliver(rt, to, &out[..used], told);
             Ran { ending, answer }
         }
-        TidyAnswer::Refused { why, line } => {
-            let number = refusals::number(why);
-            let told = texts::put_refusal(text, number, line);
+        Err(f) => {
+            let number = refusals::number(f.why);
+            let told = texts::put_refusal(text, number, f.line);
             let ending = endings::deliver(rt, to, &text[..told], told);
             Ran { ending, answer }
         }
@@ -58,40 +59,27 @@ fn say(rt: &HostRuntime, count: u64, one: &[u8], many: &[u8]) {
 }
 
 // What the text had, in a sentence.
-fn say_counts(rt: &HostRuntime, answer: TidyAnswer) {
-    match answer {
-        TidyAnswer::Tidied {
-            comments,
-            repeated,
-            turned,
-            ..
-        } => {
-            streams::say(rt, b"tidy: the text had ");
-            say(rt, comments, b" comment line, ", b" comment lines, ");
-            say(
-                rt,
-                repeated,
-                b" repeated edge and ",
-                b" repeated edges and ",
-            );
-            say(
-                rt,
-                turned,
-                b" line with the larger vertex first\n",
-                b" lines with the larger vertex first\n",
-            );
-        }
-        TidyAnswer::Refused { .. } => {}
+fn say_counts(rt: &HostRuntime, answer: Result<Tidied, Fault>) {
+    if let Ok(t) = answer {
+        streams::say(rt, b"tidy: the text had ");
+        say(rt, t.comments, b" comment line, ", b" comment lines, ");
+        say(
+            rt,
+            t.repeated,
+            b" repeated edge and ",
+            b" repeated edges and ",
+        );
+        say(
+            rt,
+            t.turned,
+            b" line with the larger vertex first\n",
+            b" lines with the larger vertex first\n",
+        );
     }
 }
 
-// What is to be told, or words where there is nothing; and nothing at all where the reader is gone, who knows.
-fn tell(rt: &HostRuntime, to: &Output, line: &[u8], answer: TidyAnswer) -> ExitCode {
-    if line.len() != 0 {
-        streams::tell(line);
-        say_counts(rt, answer);
-        return ExitCode::SUCCESS;
-    }
+// Words where there is nothing to tell; and nothing at all where the reader is gone, who knows.
+fn untold(rt: &HostRuntime, to: &Output) -> ExitCode {
     if to.gone {
         return ExitCode::from(READER_GONE);
     }
@@ -105,17 +93,17 @@ fn main(rt: HostRuntime) -> ExitCode {
     let mut text = [0u8; TEXT_BYTES];
     let mut from = rt.stdin();
     let mut to = Output::new(&rt);
-    match streams::receive(&mut from, &mut buf) {
-        Input::Failed => {
-            streams::say(&rt, b"tidy: standard input could not be read\n");
+    let Ok(k) = streams::receive(&mut from, &mut buf) else {
+        streams::say(&rt, b"tidy: standard input could not be read\n");
+        return ExitCode::SUCCESS;
+    };
+    let r = run(&rt, &mut to, &buf[..k], &mut out, &mut text);
+    match r.ending.told {
+        Some(told) => {
+            streams::tell(&text[..told]);
+            say_counts(&rt, r.answer);
             ExitCode::SUCCESS
         }
-        Input::Bytes(k) => {
-            let r = run(&rt, &mut to, &buf[..k], &mut out, &mut text);
-            let ending = r.ending;
-            let answer = r.answer;
-            let told = ending.told;
-            tell(&rt, &to, &text[..told], answer)
-        }
+        None => untold(&rt, &to),
     }
 }

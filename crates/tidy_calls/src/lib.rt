@@ -4,8 +4,7 @@
 ghost use Rattle.std.specs.Prelude.{◌≡◌, length};
 ghost use Rattle.exchange.specs.Answers.{answer_of, out_after, call_of, code_of, told_after};
 
-use exchange::TidyAnswer;
-use graphs::{TEXT_MOST, numbered};
+use graphs::{Fault, TEXT_MOST, numbered};
 use refusals::Refusal;
 
 // A caller that is told by words lends four of them.
@@ -19,24 +18,21 @@ pub fn tidy_told(text: &[u8], out: &mut [u8], told: &mut [u64]) -> u64
         × (told.new ≡ told_after (answer_of text.now (call_of text.now (length out.old) (length told.old))) told.old) }
 {
     if text.len() > TEXT_MOST {
-        return numbered(Refusal::Long, 0);
+        return numbered(Fault {
+            why: Refusal::Long,
+            line: 0,
+        });
     }
     if told.len() != TOLD_WORDS {
-        return numbered(Refusal::Length, 0);
+        return numbered(Fault {
+            why: Refusal::Length,
+            line: 0,
+        });
     }
-    let answer = exchange::tidy(text, out);
-    match answer {
-        TidyAnswer::Refused { why, line } => numbered(why, line),
-        TidyAnswer::Tidied {
-            bytes,
-            comments,
-            repeated,
-            turned,
-        } => {
-            told[0] = bytes;
-            told[1] = comments;
-            told[2] = repeated;
-            told[3] = turned;
+    match exchange::tidy(text, out) {
+        Err(f) => numbered(f),
+        Ok(t) => {
+            told.copy_from_slice(&[t.bytes, t.comments, t.repeated, t.turned]);
             0
         }
     }

@@ -5,25 +5,14 @@ use mathlib.Core.List.{List, [], ◌++◌, append_assoc, append-nil}
 use Prim.Native.Nat.{ℕ, zero, suc, ◌+◌, ◌-◌, ◌/◌, ◌%◌, ◌≤◌, ◌<◌}
 use native.Mathlib.Numerals.{add-one}
 use native.Mathlib.Omega.{arith}
-use lib.Dec.{eqb, ltb}
-use lib.ListN.{length, get_or, take}
-use borrow.Author.Tests.{lt-ltb, le-ltb}
+use lib.Dec.{ltb}
+use lib.ListN.{length, take}
 use Rattle.texts.specs.Text.{line_if, Put}
 use Rattle.graphs.specs.Edges.{Ends, has_edge}
 use Rattle.graphs.specs.Reading.{vertices_most}
-use Rattle.graphs.specs.Scans.{cell_of, cells, Seen}
+use Rattle.graphs.specs.Scans.{cells, Seen}
 use Rattle.graphs.proofs.EdgeLaw.{seen_true}
 use Rattle.tidying.specs.Tidy.{edge_line, edges_text, graph_text, keep, cell_has, tidy_from, tidy_of, tidy_text, flagged, cell_line, problem_line, flags_text}
-
--- ---- cells
-cell_back : (c : ℕ) → cell_of (c / 21) (c % 21) ≡ c
-cell_back c = omega arith
-
-pub has_lower : (s : List ℕ) (c : ℕ) → c / 21 < c % 21 → eqb (get_or s c 0) 1 ≡ cell_has (flagged s) c
-has_lower s c h = sym (ap (λ (q : Bool). q && flagged s (c / 21) (c % 21)) (lt-ltb (c / 21) (c % 21) h) ∙ ap (λ (k : ℕ). eqb (get_or s k 0) 1) (cell_back c))
-
-pub has_upper : (s : List ℕ) (c : ℕ) → c % 21 ≤ c / 21 → false ≡ cell_has (flagged s) c
-has_upper s c h = sym (ap (λ (q : Bool). q && flagged s (c / 21) (c % 21)) (le-ltb (c / 21) (c % 21) h))
 
 -- ---- in order
 pub tidy_more : (h : ℕ → ℕ → Bool) (c k : ℕ) → tidy_from h c (suc k) ≡ keep (cell_has h c) (record { one = c / 21; other = c % 21 }) (tidy_from h (suc c) k)

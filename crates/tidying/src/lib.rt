@@ -14,10 +14,7 @@ fn cell_has(seen: &[u8; 441], c: usize) -> bool
     requires { c < cells }
     ensures { result ≡ cell_has (flagged seen.now) c }
 {
-    if c / 21 < c % 21 {
-        return seen[c] == 1;
-    }
-    false
+    c / 21 < c % 21 && seen[c] == 1
 }
 
 // The line of cell c, where that is an edge with the smaller vertex first.
@@ -39,10 +36,8 @@ fn put_cells(page: &mut [u8], at: usize, seen: &[u8; 441]) -> usize
     ensures { Put page.old at (edges_text (tidy_of (flagged seen.now))) page.new result × (result ≤ at + 44 * cells) }
 {
     let mut next = at;
-    let mut c: usize = 0;
-    while c < 441 {
+    for c in 0..441 {
         next = put_cell(page, next, seen, c);
-        c += 1;
     }
     next
 }

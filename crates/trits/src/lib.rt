@@ -4,10 +4,15 @@
 
 ghost use Rattle.trits.specs.Words.{Added, Negated, Multiplied, Scaled, Tested, Judged};
 
-#[derive(Clone, Copy)]
+#[derive(Clone, Copy, PartialEq, Eq)]
 pub struct Vector {
     pub high: u64,
     pub low: u64,
+}
+
+impl Vector {
+    // The vector of zeros.
+    pub const ZERO: Vector = Vector { high: 0, low: 0 };
 }
 
 // The sum of two vectors, trit by trit modulo 3.
@@ -44,9 +49,8 @@ pub fn product(a: Vector, b: Vector) -> Vector
 pub fn times(v: Vector, t: u64) -> Vector
     ensures { Scaled v t result }
 {
-    let ones: u64 = 0xffff_ffff_ffff_ffff;
-    let keep = (t % 3 + 1) / 2 * ones;
-    let turn = t % 3 / 2 * ones;
+    let keep = (t % 3 + 1) / 2 * u64::MAX;
+    let turn = t % 3 / 2 * u64::MAX;
     Vector {
         high: v.high & keep,
         low: ((v.high & turn) ^ v.low) & keep,

@@ -6,12 +6,23 @@ ghost use Rattle.std.specs.Prelude.{◌<◌};
 
 use trits::Vector;
 
-#[derive(Drop)]
+#[derive(Default, Drop)]
 struct Count {
     asked: u64,
     differ: u64,
 }
 
+impl Count {
+    // One comparison more.
+    fn ask(&mut self, same: bool) {
+        self.asked = self.asked.wrapping_add(1);
+        if !same {
+            self.differ = self.differ.wrapping_add(1);
+        }
+    }
+}
+
+// An enum and not closures: what is wanted, what is done and what is read all depend on it.
 #[derive(Clone, Copy)]
 enum Op {
     Product,
@@ -25,10 +36,8 @@ enum Op {
 // x halved e times.
 fn halved(x: u64, e: u64) -> u64 {
     let mut y = x;
-    let mut i: u64 = 0;
-    while i < e {
-        y = y / 2;
-        i += 1;
+    for _ in 0..e {
+        y /= 2;
     }
     y
 }
@@ -59,48 +68,19 @@ fn wanted(op: Op, x: u64, y: u64, e: u64, t: u64) -> u64
 
 // Whether the two words are a legal vector of m trits, place by place.
 fn plain_legal(v: Vector, m: u64) -> bool {
-    let mut e: u64 = 0;
-    let mut good = true;
-    while e < 64 {
+    (0..64).all(|e| {
         let high = halved(v.high, e) % 2;
         let low = halved(v.low, e) % 2;
-        if high < low || (m <= e && high == 1) {
-            good = false;
-        }
-        e += 1;
-    }
-    good
+        low <= high && (e < m || high == 0)
+    })
 }
 
 // Whether every trit is 0.
 fn plain_zero(v: Vector) -> bool {
-    let mut e: u64 = 0;
-    let mut zero = true;
-    while e < 64 {
-        if plain(v, e) != 0 {
-            zero = false;
-        }
-        e += 1;
-    }
-    zero
+    (0..64).all(|e| plain(v, e) == 0)
 }
 
 // ---- comparisons
-
-fn ask(c: Count, same: bool) -> Count {
-    let asked = std::num::wrapping_add_u64(c.asked, 1);
-    if same {
-        Count {
-            asked,
-            differ: c.differ,
-        }
-    } else {
-        Count {
-            asked,
-            differ: std::num::wrapping_add_u64(c.differ, 1),
-        }
-    }
-}
 
 // The operation itself.
 fn apply(op: Op, a: Vector, b: Vector, t: u64) -> Vector {
@@ -130,34 +110,24 @@ fn single(x: u64) -> Vector {
 
 // The operation on n of the 9 pairs of trits.
 fn pairs(op: Op, n: u64) -> Count {
-    let mut c = Count {
-        asked: 0,
-        differ: 0,
-    };
-    let mut k: u64 = 0;
-    while k < n {
+    let mut c = Count::default();
+    for k in 0..n {
         let x = k % 3;
         let y = k / 3 % 3;
         let r = apply(op, single(x), single(y), y);
-        let s = single(wanted(op, x, y, 1, y));
-        c = ask(c, r.high == s.high && r.low == s.low);
-        k += 1;
+        c.ask(r == single(wanted(op, x, y, 1, y)));
     }
     c
 }
 
 // The operation on two vectors, at each place and a few past the last.
-fn places(c: Count, op: Op, a: Vector, b: Vector, t: u64) -> Count {
+fn places(c: &mut Count, op: Op, a: Vector, b: Vector, t: u64) {
     let r = apply(op, a, b, t);
-    let mut d = c;
-    let mut e: u64 = 0;
-    while e < 70 {
+    for e in 0..70 {
         let x = plain(a, e);
         let y = plain(b, e);
-        d = ask(d, taken(op, r, e) == wanted(op, x, y, e, t));
-        e += 1;
+        c.ask(taken(op, r, e) == wanted(op, x, y, e, t));
     }
-    d
 }
 
 // ---- random words
@@ -179,50 +149,36 @@ fn random(x: u64, m: u64) -> Vector {
 
 // The operation on 300 pairs of legal vectors.
 fn words(op: Op) -> Count {
-    let mut c = Count {
-        asked: 0,
-        differ: 0,
-    };
+    let mut c = Count::default();
     let mut x: u64 = 88172645463325252;
-    let mut i: u64 = 0;
-    while i < 300 {
+    for _ in 0..300 {
         let y = stir(stir(stir(x)));
         let t = stir(stir(stir(y)));
-        c = places(c, op, random(x, 64), random(y, 64), t);
+        places(&mut c, op, random(x, 64), random(y, 64), t);
         x = t;
-        i += 1;
     }
     c
 }
 
 // The test of zero on 600 legal vectors, of few trits or with one trit set.
 fn zeros() -> Count {
-    let mut c = Count {
-        asked: 0,
-        differ: 0,
-    };
+    let mut c = Count::default();
     let mut x: u64 = 1181783497276652981;
-    let mut i: u64 = 0;
-    while i < 300 {
+    for i in 0..300 {
         let v = random(x, i % 8);
         let w = single_trits::with_trit(random(x, 0), i % 64, x);
-        c = ask(c, trits::is_zero(v) == plain_zero(v));
-        c = ask(c, trits::is_zero(w) == plain_zero(w));
+        c.ask(trits::is_zero(v) == plain_zero(v));
+        c.ask(trits::is_zero(w) == plain_zero(w));
         x = stir(stir(stir(x)));
-        i += 1;
     }
     c
 }
 
 // The test of legality on 900 vectors: of m trits, of 64 trits, and of any two words.
 fn legals() -> Count {
-    let mut c = Count {
-        asked: 0,
-        differ: 0,
-    };
+    let mut c = Count::default();
     let mut x: u64 = 2685821657736338717;
-    let mut i: u64 = 0;
-    while i < 300 {
+    for i in 0..300 {
         let m = i % 66;
         let u = random(x, m);
         let v = random(x, 64);
@@ -230,41 +186,35 @@ fn legals() -> Count {
             high: x,
             low: stir(x),
         };
-        c = ask(c, trits::legal(u, m) == plain_legal(u, m));
-        c = ask(c, trits::legal(v, m) == plain_legal(v, m));
-        c = ask(c, trits::legal(w, m) == plain_legal(w, m));
+        c.ask(trits::legal(u, m) == plain_legal(u, m));
+        c.ask(trits::legal(v, m) == plain_legal(v, m));
+        c.ask(trits::legal(w, m) == plain_legal(w, m));
         x = stir(stir(stir(x)));
-        i += 1;
     }
     c
 }
 
 // ---- what is written
 
-// A line for one kind of comparison; the sum of all so far. That nobody reads the line changes nothing.
-fn tell(rt: &HostRuntime, name: &str, all: Count, c: Count) -> Count {
+// A line for one kind of comparison, which is added to all so far. That nobody reads the line changes nothing.
+fn tell(rt: &HostRuntime, name: &str, all: &mut Count, c: Count) {
     let asked = c.asked;
     let differ = c.differ;
     let _ = println!(rt; "{name} {asked} differences {differ}");
-    Count {
-        asked: std::num::wrapping_add_u64(all.asked, asked),
-        differ: std::num::wrapping_add_u64(all.differ, differ),
-    }
+    all.asked = all.asked.wrapping_add(asked);
+    all.differ = all.differ.wrapping_add(differ);
 }
 
 fn main(rt: HostRuntime) {
-    let none = Count {
-        asked: 0,
-        differ: 0,
-    };
-    let a = tell(&rt, "products", none, pairs(Op::Product, 9));
-    let b = tell(&rt, "multiples", a, pairs(Op::Multiple, 9));
-    let c = tell(&rt, "products in words", b, words(Op::Product));
-    let d = tell(&rt, "multiples in words", c, words(Op::Multiple));
-    let e = tell(&rt, "trits read", d, words(Op::Read));
-    let f = tell(&rt, "trits put", e, words(Op::Put));
-    let g = tell(&rt, "zero tests", f, zeros());
-    let all = tell(&rt, "legality tests", g, legals());
+    let mut all = Count::default();
+    tell(&rt, "products", &mut all, pairs(Op::Product, 9));
+    tell(&rt, "multiples", &mut all, pairs(Op::Multiple, 9));
+    tell(&rt, "products in words", &mut all, words(Op::Product));
+    tell(&rt, "multiples in words", &mut all, words(Op::Multiple));
+    tell(&rt, "trits read", &mut all, words(Op::Read));
+    tell(&rt, "trits put", &mut all, words(Op::Put));
+    tell(&rt, "zero tests", &mut all, zeros());
+    tell(&rt, "legality tests", &mut all, legals());
     let asked = all.asked;
     if all.differ == 0 {
         let _ = println!(rt; "all {asked} agree");

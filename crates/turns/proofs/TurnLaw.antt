@@ -21,13 +21,10 @@ use Rattle.tables.proofs.MonomialLaw.{nth_const, nth_lin, nth_quad}
 use Rattle.tables.proofs.WordLaw.{entry_words}
 use Rattle.tables.proofs.RoundLaw.{coefficients_hold}
 use Rattle.tables.proofs.VectorLaw.{of_self, of_add, of_negate}
-use Rattle.tables.proofs.WriteLaw.{row_entry, written_none, written_put, written_first, length_put}
+use Rattle.tables.proofs.WriteLaw.{row_entry, written_put, written_first, length_put}
 use Rattle.turns.proofs.FillLaw.{filled_next}
 
 -- ---- the later products of one unknown
-pub products_none : (n i : ℕ) (g t : List ℕ) → Written g (index_of n i i + 1) (index_of n i i + (i + 1 - i)) t t
-products_none n i g t = let e : i + 1 - i ≡ 1 = omega arith in rw e (written_none g t (index_of n i i + 1))
-
 module _ (n m i j : ℕ) (from : List ℕ) (f : ℕ → ℕ) (g old t : List ℕ) (step : Vector) where
   pub products_next : i < j → j < n → length old ≡ 2 * count_of n → Table n m from → step ≡ of_trits m f → Products n m i from f g
       → (k : ℕ) → k ≡ index_of n i j → (x : Vector) → x ≡ entry from k → (v : Vector) → Added x step v

@@ -18,7 +18,7 @@ pub fn product_before(table: &[u64], n: usize, i: usize) -> Vector
     ensures { result ≡ before_of n table.now i }
 {
     if i == 0 {
-        return Vector { high: 0, low: 0 };
+        return Vector::ZERO;
     }
     entry(table, n, i - 1, i)
 }
@@ -29,12 +29,9 @@ fn turn_products(from: &[u64], to: &mut [u64], n: usize, i: usize, step: Vector)
     ensures { (m : ℕ) → (f : ℕ → ℕ) → (g : List ℕ) → Table n m from.now → step ≡ of_trits m f
         → Products n m i from.now f g → Written g (index_of n i i + 1) (index_of n i i + (n - i)) to.old to.new }
 {
-    let mut j = i + 1;
-    while j < n {
+    for j in i + 1..n {
         let k = index(n, i, j);
-        let v = add(vector(from, k), step);
-        put_entry(to, k, v);
-        j += 1;
+        put_entry(to, k, add(vector(from, k), step));
     }
 }
 

@@ -9,7 +9,7 @@ use Rattle.walk.specs.declared.Walker.{Walker}
 use Rattle.walk.specs.declared.Ran.{Ran}
 
 -- the state of a walker with its counts, over the list lent
-abbrev pub state_of : Ran → List ℕ → State
+abbrev pub state_of : Ran Walker → List ℕ → State
 state_of r l =
     record {
       place = r.walker.place;
@@ -33,13 +33,13 @@ abbrev pub search_of : List ℕ → ℕ → ℕ → ℕ → State → State
 search_of t n e = run_of 3 (walk_of n (product t n)) (halt_of e)
 
 -- the numbers of a walker with its counts are within their ends
-pub record Sane (e : ℕ) (r : Ran) (l : List ℕ) : Type 0 where
+pub record Sane (e : ℕ) (r : Ran Walker) (l : List ℕ) : Type 0 where
   pub place : r.walker.place ≤ e
   pub found : r.found ≤ length l
   pub additions : r.additions ≤ 2 * r.walker.place
 
 -- the parts of a walker with its counts
-abbrev pub part_of : Ran → Part
+abbrev pub part_of : Ran Walker → Part
 part_of r =
     record {
       value = r.walker.value;

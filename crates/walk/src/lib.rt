@@ -22,10 +22,10 @@ pub struct Walker {
     pub slots: [Vector; 20],
 }
 
-// A walker after some places, the additions they took and the zeros found there.
+// A walker of either degree after some places, the additions they took and the zeros found there.
 #[derive(Drop)]
-pub struct Ran {
-    pub walker: Walker,
+pub struct Ran<W> {
+    pub walker: W,
     pub additions: u64,
     pub found: usize,
 }
@@ -40,22 +40,27 @@ fn lead(place: u64, budget: u64) -> u64
 
 // At most budget places, up to end or a full list. Every zero's point is listed, from the front of list; the rest of list stays.
 // The crate above has checked the sizes, so they are required here.
-pub fn run(table: &[u64], n: usize, end: u64, w: Walker, budget: u64, list: &mut [u64]) -> Ran
+pub fn run(
+    table: &[u64],
+    n: usize,
+    end: u64,
+    w: Walker,
+    budget: u64,
+    list: &mut [u64],
+) -> Ran<Walker>
     requires sized { Sized table.now n end }
     requires place_le_end { w.place ≤ end }
     ensures state { state_of result list.new ≡ search_of table.now n end budget (fresh w list.old) }
     ensures range { (w.place ≤ result.walker.place) × (result.walker.place ≤ end) }
 {
-    let start = w.place;
     let r = Ran {
         walker: w,
         additions: 0,
         found: 0,
     };
-    let first = lead(start, budget);
-    let a = steps::steps(table, n, end, r, first, list);
+    let a = steps::steps(table, n, end, r, lead(w.place, budget), list);
     let at = a.walker.place;
-    let b = leaps::leaps(table, n, end, a, budget - (at - start), list);
+    let b = leaps::leaps(table, n, end, a, budget - (at - w.place), list);
     let past = b.walker.place;
-    steps::steps(table, n, end, b, budget - (past - start), list)
+    steps::steps(table, n, end, b, budget - (past - w.place), list)
 }

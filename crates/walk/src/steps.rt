@@ -10,17 +10,18 @@ use moves::{head, mark};
 pub fn going(left: u64, end: u64, place: u64, len: usize, found: usize) -> bool
     ensures { result ≡ (not (eqb left 0) && not (eqb place end) && not (eqb found len)) }
 {
-    if left == 0 {
-        return false;
-    }
-    if place == end {
-        return false;
-    }
-    found != len
+    left != 0 && place != end && found != len
 }
 
 // At most budget places, one by one, up to end or a full list. Nothing is copied from place to place.
-pub(crate) fn steps(table: &[u64], n: usize, end: u64, r: Ran, budget: u64, list: &mut [u64]) -> Ran
+pub(crate) fn steps(
+    table: &[u64],
+    n: usize,
+    end: u64,
+    r: Ran<Walker>,
+    budget: u64,
+    list: &mut [u64],
+) -> Ran<Walker>
     requires sized { Sized table.now n end }
     requires sane_2 { Sane end r list.old }
     ensures state { state_of result list.new ≡ search_of table.now n end budget (state_of r list.old) }
@@ -38,24 +39,20 @@ pub(crate) fn steps(table: &[u64], n: usize, end: u64, r: Ran, budget: u64, list
     while going(left, end, place, len, found) {
         let f = positions::split(place);
         let b = f.position;
-        let slot = slots[b];
-        let h = head(table, n, place, b, f.rest, slot, value, additions);
-        let up = h.slot;
-        let next = h.value;
-        slots[b] = up;
-        found = mark(n, next, place, found, list);
-        value = next;
+        let h = head(table, n, place, b, f.rest, slots[b], value, additions);
+        slots[b] = h.slot;
+        found = mark(n, h.value, place, found, list);
+        value = h.value;
         additions = h.additions;
         place += 1;
         left -= 1;
     }
-    let walker = Walker {
-        place,
-        value,
-        slots,
-    };
     Ran {
-        walker,
+        walker: Walker {
+            place,
+            value,
+            slots,
+        },
         additions,
         found,
     }

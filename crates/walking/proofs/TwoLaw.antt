@@ -85,7 +85,7 @@ module _ (n m : ℕ) (t : List ℕ) where
       λ i. record { n = n; m = m; place = record { 0 = p }; value = e1 i; slots = e2 i; seconds = e3 i }
 
   -- ---- from what the walk's code says
-  module _ (ok : Checked g) (r : Record) (own : fits g r ≡ true) (b e : ℕ) (l k : List ℕ) (x : Ran) (end : e ≡ 3 ^ n) (long : length x.walker.slots ≡ 20)
+  module _ (ok : Checked g) (r : Record) (own : fits g r ≡ true) (b e : ℕ) (l k : List ℕ) (x : Ran Walker) (end : e ≡ 3 ^ n) (long : length x.walker.slots ≡ 20)
       (went : state_of x k ≡ search_of t n e b (fresh (record { place = r.place.0; value = r.value; slots = r.slots }) l)) where
     abbrev p : ℕ
     p = r.place.0

@@ -22,18 +22,6 @@ pub struct Went {
     pub found: usize,
 }
 
-// All of `into` becomes the words of second slots.
-fn copy(from: &[u64], into: &mut [u64])
-    requires { (length from.now ≡ second_words) × (length into.old ≡ second_words) }
-    ensures { into.new ≡ from.now }
-{
-    let mut i: usize = 0;
-    while i < SECOND_WORDS {
-        into[i] = from[i];
-        i += 1;
-    }
-}
-
 // The walk of a table of degree 2, whose records have no second slots, whatever is lent for them.
 fn walked_two(
     n: u64,
@@ -47,23 +35,22 @@ fn walked_two(
     requires { Checked (quadratic n m table.now) × (fits (quadratic n m table.now) (whole_of degree.Two f []) ≡ true) × (end ≡ 3 ^ n) }
     ensures { (s : List ℕ) → Leaves (quadratic n m table.now) f.place.0 budget list.old list.new s result }
 {
-    let value = f.value;
+    // An array goes from one struct to another by a variable of its own: the borrow checker covers no other way.
     let slots = f.slots;
     let w = walk::Walker {
         place: f.place.0,
-        value,
+        value: f.value,
         slots,
     };
     let t = walk::run(table, n as usize, end, w, budget, list);
     let last = t.walker;
-    let value = last.value;
     let slots = last.slots;
     Went {
         first: First {
             n,
             m,
             place: Place(last.place),
-            value,
+            value: last.value,
             slots,
         },
         additions: t.additions,
@@ -85,27 +72,25 @@ fn walked_three(
     requires { Checked (cubic n m table.now) × (fits (cubic n m table.now) (whole_of degree.Three s seconds.old) ≡ true) × (end ≡ 3 ^ n) × (length seconds.old ≡ second_words) }
     ensures { Leaves (cubic n m table.now) s.place.0 budget list.old list.new seconds.new result }
 {
-    let value = s.value;
     let slots = s.slots;
     let mut own = [0u64; SECOND_WORDS];
-    copy(seconds, &mut own);
+    own.copy_from_slice(seconds);
     let w = cubic_walk::Walker {
         place: s.place.0,
-        value,
+        value: s.value,
         slots,
         seconds: own,
     };
     let t = cubic_walk::run(table, n as usize, end, w, budget, list);
     let left = t.walker;
-    let value = left.value;
     let slots = left.slots;
-    copy(&left.seconds, seconds);
+    seconds.copy_from_slice(&left.seconds);
     Went {
         first: First {
             n,
             m,
             place: Place(left.place),
-            value,
+            value: left.value,
             slots,
         },
         additions: t.additions,

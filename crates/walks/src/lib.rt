@@ -4,7 +4,7 @@
 use gray::Place;
 
 // Why a call stopped; with Full and Spent the place next to be examined.
-#[derive(Clone, Copy)]
+#[derive(Clone, Copy, PartialEq, Eq)]
 pub enum Stop {
     Ended,
     Full(Place),
@@ -12,7 +12,7 @@ pub enum Stop {
 }
 
 // What a call did.
-#[derive(Clone, Copy)]
+#[derive(Clone, Copy, PartialEq, Eq)]
 pub struct Report {
     pub stop: Stop,
     pub points: u64,

@@ -14,7 +14,7 @@ ghost use Rattle.cubic_tables.specs.Words.{CubicTable, cubic_at};
 ghost use Rattle.listed.specs.Lists.{Lists};
 ghost use Rattle.weights.specs.Parts.{Weighs, Skips};
 
-use listed::row;
+use listed::{Listed, row};
 use refusals::MOST_UNKNOWNS;
 use tables::{index, vector};
 use trits::{Vector, add, times};
@@ -51,14 +51,14 @@ pub fn weigh(y: u64) -> Weights
 }
 
 // The number in the list from which on the listed unknowns are past k, if it was so for those from k on.
-pub fn skip(at: &[usize; 21], from: usize, count: usize, k: usize) -> usize
-    requires { (from ≤ count) × (count ≤ most_unknowns) × (k < 2 ^ 32) }
-    ensures { ((n : ℕ) (x : ℕ → ℕ) (turn : List ℕ) → Lists n x at.now turn count → Skips x at.now count k from → Skips x at.now count (k + 1) result) × (result ≤ count) }
+pub fn skip(list: &Listed, from: usize, k: usize) -> usize
+    requires { (from ≤ list.now.count) × (list.now.count ≤ most_unknowns) × (k < 2 ^ 32) }
+    ensures { ((n : ℕ) (x : ℕ → ℕ) (turn : List ℕ) → Lists n x list.now.at turn list.now.count → Skips x list.now.at list.now.count k from → Skips x list.now.at list.now.count (k + 1) result) × (result ≤ list.now.count) }
 {
-    if from == count {
+    if from == list.count {
         return from;
     }
-    if at[from] == k {
+    if list.at[from] == k {
         return from + 1;
     }
     from
@@ -83,18 +83,24 @@ pub fn weighed(
     c: usize,
     base: usize,
     w: Weights,
-    at: &[usize; 21],
-    turn: &[u64; MOST_UNKNOWNS],
+    list: &Listed,
     from: usize,
-    count: usize,
 ) -> Vector
-    requires n_le_most_unknowns { (n ≤ most_unknowns) × (b ≤ c) × (c < n) × (base ≡ key_of n b + (pair_of n c c - c)) × (base < 2 ^ 32) × (length table.now ≡ 2 * cubic_count n) × (from ≤ count) × (count ≤ most_unknowns) }
-    requires by_index { (t : ℕ) → from ≤ t → t < count → (c + 2 ≤ get_or at.now t 0) × (get_or at.now t 0 < n) }
-    ensures { (m a : ℕ) (g x : ℕ → ℕ) → CubicTable n m table.now → Lists n x at.now turn.now count → Skips x at.now count (c + 2) from
+    requires n_le_most_unknowns { (n ≤ most_unknowns) × (b ≤ c) × (c < n) × (base ≡ key_of n b + (pair_of n c c - c)) × (base < 2 ^ 32) × (length table.now ≡ 2 * cubic_count n) × (from ≤ list.now.count) × (list.now.count ≤ most_unknowns) }
+    requires by_index { (t : ℕ) → from ≤ t → t < list.now.count → (c + 2 ≤ get_or list.now.at t 0) × (get_or list.now.at t 0 < n) }
+    ensures { (m a : ℕ) (g x : ℕ → ℕ) → CubicTable n m table.now → Lists n x list.now.at list.now.turn list.now.count → Skips x list.now.at list.now.count (c + 2) from
         → Weighs n b c a g x w → Holds m (λ e. a * (cubic_at n table.now e).quad b c + sum n (λ d. g d * (cubic_at n table.now e).cube b c d)) result }
 {
     let k = index(n, b, c);
-    let far = row(table, base, vector(table, k), at, turn, from, count);
+    let far = row(
+        table,
+        base,
+        vector(table, k),
+        &list.at,
+        &list.turn,
+        from,
+        list.count,
+    );
     let near = more(table, times(far, w.whole), b < c, base + c, w.same);
     more(table, near, c + 1 < n, base + c + 1, w.next)
 }

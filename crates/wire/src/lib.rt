@@ -17,27 +17,22 @@ fn first_of(w: &[u64]) -> First
     requires { length w.now ≡ limits.first_words }
     ensures { result ≡ first_with w.now }
 {
-    let none = Vector { high: 0, low: 0 };
+    let none = Vector::ZERO;
     let mut slots = [none; MOST_UNKNOWNS];
-    let mut i: usize = 0;
-    while i < MOST_UNKNOWNS {
-        let high = w[5 + 2 * i];
-        let low = w[6 + 2 * i];
-        let v = Vector { high, low };
-        slots[i] = v;
-        i += 1;
+    for i in 0..MOST_UNKNOWNS {
+        slots[i] = Vector {
+            high: w[5 + 2 * i],
+            low: w[6 + 2 * i],
+        };
     }
-    let n = w[0];
-    let m = w[1];
-    let place = Place(w[2]);
-    let high = w[3];
-    let low = w[4];
-    let value = Vector { high, low };
     First {
-        n,
-        m,
-        place,
-        value,
+        n: w[0],
+        m: w[1],
+        place: Place(w[2]),
+        value: Vector {
+            high: w[3],
+            low: w[4],
+        },
         slots,
     }
 }
@@ -68,16 +63,7 @@ pub fn read_record(b: &[u8]) -> Record
     let f = read_first(b);
     let mut seconds = [0u64; SECOND_WORDS];
     read_seconds(b, &mut seconds);
-    let value = f.value;
-    let slots = f.slots;
-    Record {
-        n: f.n,
-        m: f.m,
-        place: Place(f.place.0),
-        value,
-        slots,
-        seconds,
-    }
+    f.with(seconds)
 }
 
 // Whether the record that 3,720 bytes stand for has no second slots. No byte ends it early, so that the compiler looks at several at once.
@@ -85,12 +71,10 @@ pub fn no_seconds(b: &[u8]) -> bool
     requires { length b.now ≡ limits.record_length }
     ensures { result ≡ all_zero (record_in b.now).seconds }
 {
+    let seconds = &b[FIRST_LENGTH..RECORD_LENGTH];
     let mut any: u8 = 0;
-    let mut i: usize = FIRST_LENGTH;
-    while i < RECORD_LENGTH {
-        let x = b[i];
-        any = any | x;
-        i += 1;
+    for x in seconds {
+        any |= *x;
     }
     any == 0
 }

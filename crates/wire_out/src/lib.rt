@@ -6,9 +6,8 @@ ghost use Rattle.refusals.specs.Limits as limits;
 ghost use Rattle.codec.specs.Codec.{bytes_from};
 ghost use Rattle.wire.specs.Wire.{part_words, record_words, parts_in};
 
-use gray::Place;
 use opening::{First, Record};
-use refusals::{FIRST_WORDS, MOST_UNKNOWNS, SECOND_WORDS};
+use refusals::{FIRST_WORDS, MOST_UNKNOWNS};
 
 // All of w becomes the first 45 words of a record.
 fn put_first(r: First, w: &mut [u64])
@@ -20,24 +19,10 @@ fn put_first(r: First, w: &mut [u64])
     w[2] = r.place.0;
     w[3] = r.value.high;
     w[4] = r.value.low;
-    let mut i: usize = 0;
-    while i < MOST_UNKNOWNS {
+    for i in 0..MOST_UNKNOWNS {
         let v = r.slots[i];
         w[5 + 2 * i] = v.high;
         w[6 + 2 * i] = v.low;
-        i += 1;
-    }
-}
-
-// All of w becomes the words of second slots.
-fn put_seconds(s: [u64; SECOND_WORDS], w: &mut [u64])
-    requires { length w.old ≡ limits.second_words }
-    ensures { w.new ≡ s }
-{
-    let mut i: usize = 0;
-    while i < SECOND_WORDS {
-        w[i] = s[i];
-        i += 1;
     }
 }
 
@@ -46,18 +31,8 @@ pub fn put_record(r: Record, w: &mut [u64])
     requires { length w.old ≡ limits.record_words }
     ensures { w.new ≡ record_words r }
 {
-    let value = r.value;
-    let slots = r.slots;
-    let f = First {
-        n: r.n,
-        m: r.m,
-        place: Place(r.place.0),
-        value,
-        slots,
-    };
-    put_first(f, &mut w[..FIRST_WORDS]);
-    let s = r.seconds;
-    put_seconds(s, &mut w[FIRST_WORDS..]);
+    put_first(r.first(), &mut w[..FIRST_WORDS]);
+    w[FIRST_WORDS..].copy_from_slice(&r.seconds);
 }
 
 // A first part becomes the front of the 3,720 bytes of a record, and the words s the front of its second slots; the rest is as it was.
@@ -76,15 +51,5 @@ pub fn write_record(r: Record, b: &mut [u8])
     requires { length b.old ≡ limits.record_length }
     ensures { b.new ≡ bytes_from (record_words r) }
 {
-    let value = r.value;
-    let slots = r.slots;
-    let f = First {
-        n: r.n,
-        m: r.m,
-        place: Place(r.place.0),
-        value,
-        slots,
-    };
-    let s = r.seconds;
-    write_parts(f, &s, b);
+    write_parts(r.first(), &r.seconds, b);
 }

@@ -3,4 +3,4 @@ use Rattle.blocks.proofs.tops.Goals as goal
 
 pub returns : goal.returns
 returns c =
-    rw (c.entry-t22.ensures, c.entry-t12.ensures, c.entry-t02.ensures, c.entry-t11.ensures, c.entry-t01.ensures, c.entry-t00.ensures)
+    rw (c.entry-6.ensures, c.entry-5.ensures, c.entry-4.ensures, c.entry-3.ensures, c.entry-2.ensures, c.entry.ensures)

@@ -11,24 +11,18 @@ use Rattle.codec.proofs.CodecLaw.{words_zero, words_more}
 use Rattle.codec.proofs.decode.Goals as goal
 
 pub loop-i-init : goal.loop-i-init
-loop-i-init c = (omega arith, refl, sym (words_zero _))
-
-pub loop-i-smaller : goal.loop-i-smaller
-loop-i-smaller c =
-    let l = c.loop-i in
-    omega (arith, length-set l.out l.i c.word_at-w.result)
+loop-i-init c = (refl, sym (words_zero _))
 
 pub loop-i-preserved : goal.loop-i-preserved
 loop-i-preserved c =
     let l = c.loop-i in
     let b = c.args.b.now in
-    let n = length-set l.out l.i c.word_at-w.result in (
-      omega (arith, n),
-      n ∙ l.invariant.1,
-      ap (λ (k : ℕ). take k (set l.out l.i c.word_at-w.result)) (add-one l.i)
-          ∙ take-suc-set l.out l.i c.word_at-w.result c.loop-i-test.true
-          ∙ ap (λ (m : List ℕ). m ++ (c.word_at-w.result ∷ [])) l.invariant.2
-          ∙ ap (λ (w : ℕ). words_of l.i b ++ (w ∷ [])) c.word_at-w.ensures
+    let w = c.word_at.result in (
+      length-set l.out l.i w ∙ l.invariant.0,
+      ap (λ (k : ℕ). take k (set l.out l.i w)) (add-one l.i)
+          ∙ take-suc-set l.out l.i w (omega arith)
+          ∙ ap (λ (m : List ℕ). m ++ (w ∷ [])) l.invariant.1
+          ∙ ap (λ (v : ℕ). words_of l.i b ++ (v ∷ [])) c.word_at.ensures
           ∙ sym (words_more l.i b) ∙ ap (λ (k : ℕ). words_of k b) (sym (add-one l.i)),
     )
 
@@ -37,4 +31,4 @@ returns c =
     let l = c.loop-i in
     let b = c.args.b.now in
     let e : l.i ≡ length c.args.out.now = omega arith in
-    sym (take_all l.i l.out (omega arith)) ∙ l.invariant.2 ∙ ap (λ (k : ℕ). words_of k b) e
+    sym (take_all l.i l.out (omega arith)) ∙ l.invariant.1 ∙ ap (λ (k : ℕ). words_of k b) e

@@ -12,23 +12,21 @@ use Rattle.codec.proofs.encode.Goals as goal
 pub loop-i-init : goal.loop-i-init
 loop-i-init c =
     let a = c.args in
-    (omega arith, refl, paste_none a.b.now (8 * a.at) ∙ ap (pasted a.b.now (8 * a.at)) (sym from_nil))
+    (refl, paste_none a.b.now (8 * a.at) ∙ ap (pasted a.b.now (8 * a.at)) (sym from_nil))
 
 pub loop-i-preserved : goal.loop-i-preserved
 loop-i-preserved c =
     let l = c.loop-i in
     let a = c.args in
-    let h = c.loop-i-test.true in
     let n = pasted_length l.b c.put_word.new.b (8 * (a.at + l.i)) 8 (get_or a.w.now l.i 0) c.put_word.ensures (omega arith) in (
-      omega arith,
-      n ∙ l.invariant.1,
+      n ∙ l.invariant.0,
       c.put_word.ensures
-          ∙ ap (λ (m : List ℕ). pasted m (8 * (a.at + l.i)) (bytes_of 8 (get_or a.w.now l.i 0))) l.invariant.2
-          ∙ encode_turn a.b.now a.at l.i a.w.now h c.requires,
+          ∙ ap (λ (m : List ℕ). pasted m (8 * (a.at + l.i)) (bytes_of 8 (get_or a.w.now l.i 0))) l.invariant.1
+          ∙ encode_turn a.b.now a.at l.i a.w.now (omega arith) c.requires,
     )
 
 pub returns : goal.returns
 returns c =
     let l = c.loop-i in
     let a = c.args in
-    l.invariant.2 ∙ ap (λ (m : List ℕ). pasted a.b.now (8 * a.at) (bytes_from m)) (take_all l.i a.w.now (omega arith))
+    l.invariant.1 ∙ ap (λ (m : List ℕ). pasted a.b.now (8 * a.at) (bytes_from m)) (take_all l.i a.w.now (omega arith))

@@ -9,36 +9,17 @@ use lib.Seq.{get_or-set_same, get_or-set_other}
 use Rattle.cubic_tables.specs.Order.{key_of}
 use Rattle.cubic_blocks.proofs.all_keys.Goals as goal
 
-pub loop-b-init : goal.loop-b-init
-loop-b-init c = (omega arith, refl, (λ i h. absurd (omega arith)))
-
-pub key-k-requires : goal.key-k-requires
-key-k-requires c = (c.requires, omega (arith, c.loop-b-test))
-
-pub offset_bounds-r-b : goal.offset_bounds-r-b
-offset_bounds-r-b c = omega (arith, c.loop-b-test, c.requires)
-
-pub bounds-r-b : goal.bounds-r-b
-bounds-r-b c = omega (arith, c.loop-b-test, c.requires)
-
-pub overflow_add-b : goal.overflow_add-b
-overflow_add-b c = omega (arith, c.loop-b-test, c.requires)
-
-pub loop-b-smaller : goal.loop-b-smaller
-loop-b-smaller c = omega (arith, c.loop-b-test)
-
 pub loop-b-preserved : goal.loop-b-preserved
 loop-b-preserved c =
     let l = c.loop-b in
     let n = c.args.n in
-    let k = c.key-k in (
-      omega (arith, c.loop-b-test),
-      length-set l.r l.b k.result ∙ l.invariant.1,
+    let k = c.key in (
+      length-set l.r l.b k.result ∙ l.invariant.0,
       (λ i h.
           by_cases (ℕ_discrete i l.b)
-          (λ e. ap (λ (j : ℕ). get_or (set l.r l.b k.result) j 0) e ∙ get_or-set_same l.r l.b k.result 0 (omega (arith, l.invariant.1, c.loop-b-test, c.requires)) ∙ k.ensures.0 ∙ ap (key_of n) (sym e))
-          (λ e. get_or-set_other l.r l.b i k.result 0 e ∙ l.invariant.2 i (omega arith))),
+          (λ e. ap (λ (j : ℕ). get_or (set l.r l.b k.result) j 0) e ∙ get_or-set_same l.r l.b k.result 0 (omega (arith, l.invariant.0, c.loop-b-test, c.requires)) ∙ k.ensures.0 ∙ ap (key_of n) (sym e))
+          (λ e. get_or-set_other l.r l.b i k.result 0 e ∙ l.invariant.1 i (omega arith))),
     )
 
 pub returns : goal.returns
-returns c = λ b h. c.loop-b.invariant.2 b (omega (arith, c.loop-b-test))
+returns c = λ b h. c.loop-b.invariant.1 b (omega (arith, c.loop-b-test))

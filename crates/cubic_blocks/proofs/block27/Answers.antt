@@ -21,12 +21,6 @@ big-part-requires c =
     let e = end_small a.n z.small in
     record { fits = fits_head a.table.now a.n a.k a.b a.c c.pair-p.result (omega (arith, q)) z.small z.table k.0 q.1 q.2 c.pair-p.ensures.0; found_in_bounds = (f.0, omega (arith, m.2), omega (arith, c.head-h.ensures.count, f.1)) }
 
-pub points-requires : goal.points-requires
-points-requires c =
-    let q = c.requires.le_b in
-    let r = c.big-part in
-    (omega (arith, q), c.requires.sized.small, omega (arith, r.ensures.went.found, r.auto, c.requires.found_in_bounds.0))
-
 pub returns : goal.returns
 returns c =
     let a = c.args in

@@ -2,4 +2,4 @@
 use Rattle.cubic_blocks.proofs.keys.Goals as goal
 
 pub returns : goal.returns
-returns c = rw (c.key-k2.ensures.0, c.key-k1.ensures.0, c.key-k0.ensures.0)
+returns c = rw (c.key-3.ensures.0, c.key-2.ensures.0, c.key.ensures.0)

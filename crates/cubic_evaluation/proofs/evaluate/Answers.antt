@@ -1,44 +1,30 @@
 -- `cubic_evaluation::evaluate` meets its contract: the table is judged, then the point, then the value is summed.
+use Rattle.std.specs.Prelude.{Ok, Err}
+use Rattle.std.proofs.lemmas.Result.{err_from_is_err_and}
 use mathlib.Core.Path.{sym, ap, ◌∙◌}
 use native.Mathlib.Omega.{arith}
 use lib.ListN.{get_or}
-use Rattle.refusals.specs.declared.Verdict.TheVariants.{Done}
-use Rattle.tables.specs.declared.Evaluated.TheVariants.{Value}
 use Rattle.cubic_tables.specs.Order.{cubic_count}
 use Rattle.cubic_tables.specs.Words.{cubic_values}
 use Rattle.cubic_tables.specs.Answers.{cubic_evaluate_verdict}
 use Rattle.tables.proofs.AnswerLaw.{entries_checked}
-use Rattle.evaluation.proofs.AnswerLaw.{value_refused, value_outside, value_inside, tells_of}
+use Rattle.evaluation.proofs.AnswerLaw.{value_refused, value_inside, tells_of}
 use Rattle.cubic_planes.proofs.ValueLaw.{values_are}
 use Rattle.cubic_evaluation.proofs.evaluate.Goals as goal
 
-pub returns-then-x-power : goal.returns-then-x-power
-returns-then-x-power c =
+pub returns-in_err-check : goal.returns-in_err-check
+returns-in_err-check c =
     let a = c.args in
-    let d = sym c.check-verdict.ensures.answer ∙ c.in-Done.is in
-    let r = entries_checked (cubic_count a.n) a.n a.m a.coefficients.now d in
-    let p = c.power.ensures.0 (omega (arith, r.0)) in
-    let e = sym (value_outside (cubic_count a.n) a.n a.m a.coefficients.now a.x.0 (cubic_values a.n a.m a.coefficients.now a.x.0) d (omega (arith, p, c.if-x-power.true))) in
+    let p = err_from_is_err_and c.from_residual.result c.from_residual.ensures.1 in
+    let e = p.1 ∙ ap Err p.2 ∙ sym (value_refused (cubic_count a.n) a.n a.m a.coefficients.now a.x.0 (cubic_values a.n a.m a.coefficients.now a.x.0) _ (sym c.check.ensures.answer ∙ c.in_err-check.was)) in
     (e, tells_of (cubic_evaluate_verdict a.n a.m a.coefficients.now a.x.0) (cubic_values a.n a.m a.coefficients.now a.x.0) _ e)
 
-pub value_at-requires : goal.value_at-requires
-value_at-requires c =
+pub returns : goal.returns
+returns c =
     let a = c.args in
-    let r = entries_checked (cubic_count a.n) a.n a.m a.coefficients.now (sym c.check-verdict.ensures.answer ∙ c.in-Done.is) in
-    (r.0, r.1.size)
-
-pub returns-in-Refused : goal.returns-in-Refused
-returns-in-Refused c =
-    let a = c.args in
-    let e = sym (value_refused (cubic_count a.n) a.n a.m a.coefficients.now a.x.0 (cubic_values a.n a.m a.coefficients.now a.x.0) c.in-Refused.r (sym c.check-verdict.ensures.answer ∙ c.in-Refused.is)) in
-    (e, tells_of (cubic_evaluate_verdict a.n a.m a.coefficients.now a.x.0) (cubic_values a.n a.m a.coefficients.now a.x.0) _ e)
-
-pub returns-else-x-power : goal.returns-else-x-power
-returns-else-x-power c =
-    let a = c.args in
-    let d = sym c.check-verdict.ensures.answer ∙ c.in-Done.is in
+    let d = sym c.check.ensures.answer ∙ c.in_ok-check.was in
     let r = entries_checked (cubic_count a.n) a.n a.m a.coefficients.now d in
     let p = c.power.ensures.0 (omega (arith, r.0)) in
-    let e = ap Value (c.value_at.ensures a.m r.1 ∙ values_are a.n a.m a.coefficients.now a.x.0 (λ k. get_or c.digits-d.result k 0) (λ k h. c.digits-d.ensures k (omega (arith, r.0))))
+    let e = ap Ok (c.value_at.ensures a.m r.1 ∙ values_are a.n a.m a.coefficients.now a.x.0 (λ k. get_or c.digits-d.result k 0) (λ k h. c.digits-d.ensures k (omega (arith, r.0))))
     ∙ sym (value_inside (cubic_count a.n) a.n a.m a.coefficients.now a.x.0 (cubic_values a.n a.m a.coefficients.now a.x.0) d (omega (arith, p, c.if-x-power.false))) in
     (e, tells_of (cubic_evaluate_verdict a.n a.m a.coefficients.now a.x.0) (cubic_values a.n a.m a.coefficients.now a.x.0) _ e)

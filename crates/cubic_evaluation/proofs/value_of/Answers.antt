@@ -18,28 +18,23 @@ vector-v-requires c = let a = c.args in let q = c.requires in omega (arith, cubi
 pub loop-s-init : goal.loop-s-init
 loop-s-init c =
     let a = c.args in let q = c.requires in
-    (omega arith, λ m x w g. row_begun m (λ e. (cubic_at a.n a.table.now e).const) _ _ (λ e. first_begun a.n x a.at.now a.turn.now a.count g (λ k. plane_sum (cubic_at a.n a.table.now e) a.n k x)) (rw c.vector-v.ensures (const_holds a.n m a.table.now w)))
-
-pub plane-requires : goal.plane-requires
-plane-requires c = let q = c.requires in (q.0, c.loop-s-test.true, q.1, q.2, q.3)
+    λ m x w g. row_begun m (λ e. (cubic_at a.n a.table.now e).const) _ _ (λ e. first_begun a.n x a.list.now.at a.list.now.turn a.list.now.count g (λ k. plane_sum (cubic_at a.n a.table.now e) a.n k x)) (rw c.vector-v.ensures (const_holds a.n m a.table.now w))
 
 pub loop-s-preserved : goal.loop-s-preserved
 loop-s-preserved c =
     let a = c.args in let q = c.requires in
     let l = c.loop-s in
-    let b = c.loop-s-test.true in (
-      omega arith,
-      λ m x w g.
-          row_more a.n x a.at.now a.turn.now a.count g l.s b 0 (omega arith) m
-          (λ e. (cubic_at a.n a.table.now e).const) (λ e k. plane_sum (cubic_at a.n a.table.now e) a.n k x) l.v c.turned-w.result c.add-v.result (l.invariant.1 m x w g)
-          (c.turned-w.ensures m (x (get_or a.at.now l.s 0)) _ (g.digit l.s b).0 (g.digit l.s b).1 (g.mask l.s b) (c.plane.ensures m x w g)) c.add-v.ensures,
-    )
+    let b = c.loop-s-test.true in
+    λ m x w g.
+    row_more a.n x a.list.now.at a.list.now.turn a.list.now.count g l.s b 0 (omega arith) m
+    (λ e. (cubic_at a.n a.table.now e).const) (λ e k. plane_sum (cubic_at a.n a.table.now e) a.n k x) l.v c.turned-w.result c.add-v.result (l.invariant m x w g)
+    (c.turned-w.ensures m (x (get_or a.list.now.at l.s 0)) _ (g.digit l.s b).0 (g.digit l.s b).1 (g.mask l.s b) (c.plane.ensures m x w g)) c.add-v.ensures
 
 pub returns : goal.returns
 returns c =
     let a = c.args in
     let l = c.loop-s in
-    let e : l.s ≡ a.count = omega (arith, l.invariant.0, c.loop-s-test.false) in
+    let e : l.s ≡ a.list.now.count = omega (arith, l.auto.s-end, c.loop-s-test.false) in
     λ m x w g.
-    let k : get_or a.at.now l.s 0 ≡ a.n = ap (λ (j : ℕ). get_or a.at.now j 0) e ∙ g.last in
-    whole_sum m a.n (cubic_at a.n a.table.now) x _ (rw k at (l.invariant.1 m x w g))
+    let k : get_or a.list.now.at l.s 0 ≡ a.n = ap (λ (j : ℕ). get_or a.list.now.at j 0) e ∙ g.last in
+    whole_sum m a.n (cubic_at a.n a.table.now) x _ (rw k at (l.invariant m x w g))

@@ -10,8 +10,7 @@ use Rattle.cubic_moves.proofs.MoveLaw.{third_lt}
 use Rattle.cubic_moves.proofs.second.Goals as goal
 
 pub returns-then-rest-eq0 : goal.returns-then-rest-eq0
-unfolding entry
-returns-then-rest-eq0 c = record { two = (λ h. (refl, refl, refl)); three = (λ h. absurd (omega (arith, h, c.if-rest-eq0))); count = omega arith }
+returns-then-rest-eq0 c = record { two = (λ h. (refl, c.vector.ensures, refl)); three = (λ h. absurd (omega (arith, h, c.if-rest-eq0))); count = omega arith }
 
 pub overflow_add-d : goal.overflow_add-d
 overflow_add-d c =
@@ -26,9 +25,6 @@ pair-requires c =
     let z = c.requires.n_le_most_unknowns in
     let h : 0 < a.rest = omega (arith, c.if-rest-eq0) in
     (z.0, omega arith, omega (arith, third_lt a.n a.c a.rest h z.2, c.split-f.ensures.position))
-
-pub overflow_add-e : goal.overflow_add-e
-overflow_add-e c = omega (arith, c.requires.by_index c.pair.result c.pair.ensures.1, c.well_formed.0)
 
 pub vector-t-requires : goal.vector-t-requires
 vector-t-requires c = c.requires.by_index c.pair.result c.pair.ensures.1

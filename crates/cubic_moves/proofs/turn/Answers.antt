@@ -45,14 +45,6 @@ key-kb-requires c =
     let q = c.requires.place_bound in
     (c.requires.sized.small, omega (arith, first_lt a.n a.place c.requires.sized.some q.0, q.1))
 
-pub overflow_sub-x : goal.overflow_sub-x
-overflow_sub-x c =
-    let a = c.args in
-    let q = c.requires.place_bound in
-    let g = c.split-f.ensures in
-    let o : 1 < a.rest = omega arith in
-    omega (arith, g.above (omega arith))
-
 pub head-requires : goal.head-requires
 head-requires c =
     let a = c.args in

@@ -1,5 +1,5 @@
 -- `cubic_slots::rows` meets its contract. The loop's invariant: the rows of b and the unknowns below c are added, y is what is left of the place over 3 to
--- the c, and the listed unknowns from `from` on are those past c. The measure is what is left of the unknowns.
+-- the c, and the listed unknowns from `from` on are those past c.
 use mathlib.Core.Path.{◌≡◌, ap, ap₂, ◌∙◌, subst}
 use Prim.Native.Nat.{ℕ, ◌+◌, ◌-◌, ◌/◌, ◌<◌}
 use mathlib.Core.List.{[], ◌∷◌}
@@ -23,12 +23,9 @@ pub loop-c-init : goal.loop-c-init
 loop-c-init c =
     let a = c.args in
     let p = c.requires in
-    let l = c.nonzero-l.result in
-    let one = ready_first a.n a.b a.rest c.digits_at-x.result l.at l.turn l.count c.digits_at-x.ensures.0 c.digits_at-x.ensures.1 c.nonzero-l.ensures.0 in (
-      omega arith,
-      omega arith,
+    let l = c.nonzero-list.result in
+    let one = ready_first a.n a.b a.rest c.digits_at-x.result l.at l.turn l.count c.digits_at-x.ensures.0 c.digits_at-x.ensures.1 c.nonzero-list.ensures.0 in (
       ap (λ (y : ℕ). a.rest / y) p.3,
-      omega arith,
       omega arith,
       ready_skip a.n a.b a.rest l.at l.turn l.count (a.b + 1) 0 c.skip-from.result c.skip-from.ensures.0 one,
       λ m q w e h. h,
@@ -41,35 +38,29 @@ pub weighed-r-requires : goal.weighed-r-requires
 weighed-r-requires c =
     let a = c.args in
     let o = c.loop-c in
-    let l = c.nonzero-l.result in
+    let l = c.nonzero-list.result in
     let more : Ready a.n a.b a.rest l.at l.turn l.count (o.c + 2) c.skip-from-in-loop-c.result
     = let e : o.c + 1 + 1 ≡ o.c + 2 = omega arith in subst (λ (k : ℕ). Ready a.n a.b a.rest l.at l.turn l.count k c.skip-from-in-loop-c.result) e
-    (ready_skip a.n a.b a.rest l.at l.turn l.count (o.c + 1) o.from c.skip-from-in-loop-c.result c.skip-from-in-loop-c.ensures.0 o.invariant.5) in
+    (ready_skip a.n a.b a.rest l.at l.turn l.count (o.c + 1) o.from c.skip-from-in-loop-c.result c.skip-from-in-loop-c.ensures.0 o.invariant.2) in
     let p = c.requires in record { n_le_most_unknowns = (p.0, omega arith, omega arith, ap₂ (λ (x y : ℕ). x + (y - o.c)) c.key-kb.ensures.0 c.pair.ensures.0, omega arith, p.2, omega arith, omega arith); by_index = ready_late a.n a.b a.rest l.at l.turn l.count (o.c + 2) c.skip-from-in-loop-c.result more }
-
-pub overflow_add-c-in-loop-c-2 : goal.overflow_add-c-in-loop-c-2
-overflow_add-c-in-loop-c-2 c = omega (arith, c.loop-c.invariant.1, c.loop-c-test, c.requires.0)
 
 pub loop-c-preserved : goal.loop-c-preserved
 loop-c-preserved c =
     let a = c.args in
     let o = c.loop-c in
-    let l = c.nonzero-l.result in
+    let l = c.nonzero-list.result in
     let more : Ready a.n a.b a.rest l.at l.turn l.count (o.c + 2) c.skip-from-in-loop-c.result
     = let e : o.c + 1 + 1 ≡ o.c + 2 = omega arith in subst (λ (k : ℕ). Ready a.n a.b a.rest l.at l.turn l.count k c.skip-from-in-loop-c.result) e
-    (ready_skip a.n a.b a.rest l.at l.turn l.count (o.c + 1) o.from c.skip-from-in-loop-c.result c.skip-from-in-loop-c.ensures.0 o.invariant.5) in
+    (ready_skip a.n a.b a.rest l.at l.turn l.count (o.c + 1) o.from c.skip-from-in-loop-c.result c.skip-from-in-loop-c.ensures.0 o.invariant.2) in
     let p = c.requires in
     let i : o.c + 2 ≡ o.c + 1 + 1 = omega arith in
     let low : a.b < o.c = omega arith in (
-      omega arith,
-      omega arith,
-      ap (λ (y : ℕ). y / 3) o.invariant.2 ∙ part_next a.rest o.c,
-      o.invariant.3,
+      ap (λ (y : ℕ). y / 3) o.invariant.0 ∙ part_next a.rest o.c,
       omega arith,
       subst (λ (k : ℕ). Ready a.n a.b a.rest l.at l.turn l.count k c.skip-from-in-loop-c.result) i more,
       λ m q w e h.
-          let ws = weighs_other a.n a.b o.c q a.rest o.y more.x c.weigh-w.result low e o.invariant.2 (λ d k j. more.digits d (omega arith) j) c.weigh-w.ensures.0 c.weigh-w.ensures.1 c.weigh-w.ensures.2 in
-          slot_more a.n m a.table.now a.b q o.c c.add-v.ensures (o.invariant.6 m q w e h)
+          let ws = weighs_other a.n a.b o.c q a.rest o.y more.x c.weigh-w.result low e o.invariant.0 (λ d k j. more.digits d (omega arith) j) c.weigh-w.ensures.0 c.weigh-w.ensures.1 c.weigh-w.ensures.2 in
+          slot_more a.n m a.table.now a.b q o.c c.add-v.ensures (o.invariant.3 m q w e h)
           (c.weighed-r.ensures m (visits 3 (a.b ∷ o.c ∷ []) q) (λ d. gathered 3 (a.b ∷ o.c ∷ []) (visits 3 (a.b ∷ o.c ∷ d ∷ [])) q) more.x w more.lists more.skips ws),
     )
 
@@ -77,5 +68,5 @@ pub returns : goal.returns
 returns c =
     let a = c.args in
     let o = c.loop-c in
-    let i : o.c ≡ a.n = omega arith in
-    λ m q w e h. subst (λ (k : ℕ). Holds m (λ e. slot_to (cubic_at a.n a.table.now e) a.n a.b q k) o.v) i (o.invariant.6 m q w e h)
+    let i : o.c ≡ a.n = omega (arith, o.auto.c-end, c.requires.1, c.loop-c-test.false) in
+    λ m q w e h. subst (λ (k : ℕ). Holds m (λ e. slot_to (cubic_at a.n a.table.now e) a.n a.b q k) o.v) i (o.invariant.3 m q w e h)

@@ -14,7 +14,7 @@ pub overflow_add-k : goal.overflow_add-k
 overflow_add-k c =
     let a = c.args in
     let s = power_small a.n (omega arith) in
-    omega (arith, div-le_self c.less-rest.result a.power)
+    omega (arith, div-le_self c.saturating_sub-rest.result a.power)
 
 pub overflow_mul-up : goal.overflow_mul-up
 overflow_mul-up c =
@@ -27,19 +27,13 @@ twice-first-requires c =
     let a = c.args in
     let p = c.requires in
     let s = power_small a.n (omega arith) in
-    let l = div-le_self c.less-rest.result a.power in
+    let l = div-le_self c.saturating_sub-rest.result a.power in
     (p.0, p.1, p.3, ap (λ (x : ℕ). x * 3) p.4 ∙ power_next a.b, omega arith)
-
-pub rows-requires : goal.rows-requires
-rows-requires c =
-    let a = c.args in
-    let p = c.requires in
-    (p.0, p.1, p.3, ap (λ (x : ℕ). x * 3) p.4 ∙ power_next a.b)
 
 pub returns : goal.returns
 returns c =
     let a = c.args in
     let p = c.requires in
-    let r : c.less-rest.result ≡ a.q - 3 ^ a.b = c.less-rest.ensures ∙ ap (λ (x : ℕ). a.q - x) p.4 in
+    let r : c.saturating_sub-rest.result ≡ a.q - 3 ^ a.b = c.saturating_sub-rest.ensures ∙ ap (λ (x : ℕ). a.q - x) p.4 in
     λ m w. slot_whole a.n m a.table.now a.b a.q p.1 p.2
     (c.rows.ensures m a.q w r (c.twice-first.ensures m a.q w (ap₂ (λ (x y : ℕ). (x / y + 2) / 3) r p.4)))

@@ -1,14 +1,10 @@
--- `cubic_slots::slots_at` meets its contract. The loop's invariant: the slots below b are filled, and power is 3 to the b. The measure is what is left of
--- the unknowns.
+-- `cubic_slots::slots_at` meets its contract. The loop's invariant: the slots below b are filled, and power is 3 to the b.
 use mathlib.Core.Path.{ap, ◌∙◌}
 use Prim.Native.Nat.{ℕ, ◌*◌}
 use native.Mathlib.Omega.{arith}
 use Rattle.seconds.proofs.CountedLaw.{power_next, power_small}
 use Rattle.cubic_slots.proofs.SlotLaw.{filled_none, filled_next, filled_whole}
 use Rattle.cubic_slots.proofs.slots_at.Goals as goal
-
-pub loop-b-init : goal.loop-b-init
-loop-b-init c = (omega arith, omega arith, filled_none _ _ _)
 
 pub overflow_mul-power : goal.overflow_mul-power
 overflow_mul-power c =
@@ -20,10 +16,10 @@ pub loop-b-preserved : goal.loop-b-preserved
 loop-b-preserved c =
     let a = c.args in
     let l = c.loop-b in
-    (omega arith, ap (λ (x : ℕ). x * 3) l.invariant.1 ∙ power_next l.b, filled_next a.n a.table.now a.q l.b l.s c.slot-v.result (omega arith) c.slot-v.ensures l.invariant.2)
+    (ap (λ (x : ℕ). x * 3) l.invariant.0 ∙ power_next l.b, filled_next a.n a.table.now a.q l.b l.s c.slot.result (omega arith) c.slot.ensures l.invariant.1)
 
 pub returns : goal.returns
 returns c =
     let a = c.args in
     let l = c.loop-b in
-    filled_whole a.n a.table.now a.q l.b l.s (omega arith) l.invariant.2
+    filled_whole a.n a.table.now a.q l.b l.s (omega arith) l.invariant.1

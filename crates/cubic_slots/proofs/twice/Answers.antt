@@ -32,9 +32,9 @@ overflow_sub-base c = omega (arith, pair_low c.args.n c.args.b)
 pub weighed-v-requires : goal.weighed-v-requires
 weighed-v-requires c =
     let a = c.args in
-    let l = c.nonzero-l.result in
+    let l = c.nonzero-list.result in
     let r = a.up * a.k in
-    let one = ready_first a.n a.b r c.digits_at-x.result l.at l.turn l.count c.digits_at-x.ensures.0 c.digits_at-x.ensures.1 c.nonzero-l.ensures.0 in
+    let one = ready_first a.n a.b r c.digits_at-x.result l.at l.turn l.count c.digits_at-x.ensures.0 c.digits_at-x.ensures.1 c.nonzero-list.ensures.0 in
     let two : Ready a.n a.b r l.at l.turn l.count (a.b + 2) c.skip-from.result
     = let e : a.b + 1 + 1 ≡ a.b + 2 = omega arith in subst (λ (k : ℕ). Ready a.n a.b r l.at l.turn l.count k c.skip-from.result) e (ready_skip a.n a.b r l.at l.turn l.count (a.b + 1) 0 c.skip-from.result c.skip-from.ensures.0 one) in
     let p = c.requires in record { n_le_most_unknowns = (p.0, omega arith, p.1, ap₂ (λ (x y : ℕ). x + (y - a.b)) c.key.ensures.0 c.pair.ensures.0, omega arith, p.2, omega arith, omega arith); by_index = ready_late a.n a.b r l.at l.turn l.count (a.b + 2) c.skip-from.result two }
@@ -45,9 +45,9 @@ vector-requires c = omega (arith, cubic_count_low c.args.n, count_is c.args.n)
 pub returns : goal.returns
 returns c =
     let a = c.args in
-    let l = c.nonzero-l.result in
+    let l = c.nonzero-list.result in
     let r = a.up * a.k in
-    let one = ready_first a.n a.b r c.digits_at-x.result l.at l.turn l.count c.digits_at-x.ensures.0 c.digits_at-x.ensures.1 c.nonzero-l.ensures.0 in
+    let one = ready_first a.n a.b r c.digits_at-x.result l.at l.turn l.count c.digits_at-x.ensures.0 c.digits_at-x.ensures.1 c.nonzero-list.ensures.0 in
     let two : Ready a.n a.b r l.at l.turn l.count (a.b + 2) c.skip-from.result
     = let e : a.b + 1 + 1 ≡ a.b + 2 = omega arith in subst (λ (k : ℕ). Ready a.n a.b r l.at l.turn l.count k c.skip-from.result) e (ready_skip a.n a.b r l.at l.turn l.count (a.b + 1) 0 c.skip-from.result c.skip-from.ensures.0 one) in
     let p = c.requires in

@@ -1,17 +1,11 @@
-use mathlib.Core.Path.{◌≡◌}
 use mathlib.Core.List.{List}
-use Prim.Native.Nat.{ℕ, ◌-◌, ◌*◌, ◌≤◌}
-use lib.ListN.{length}
+use Prim.Native.Nat.{ℕ}
 use Rattle.tables.specs.Monomials.{count_of}
 use Rattle.tables.specs.Words.{Written}
-use Rattle.cubic_tables.specs.Order.{cubic_count, triple_index}
+use Rattle.cubic_tables.specs.Order.{triple_index}
 use Rattle.cubic_tables.specs.Words.{CubicTable}
 use Rattle.cubic_turns.specs.Parts.{Made}
 use Rattle.cubic_turns.proofs.cells.Given as goal
 
 abbrev pub invariant-loop-d : goal.invariant-loop-d
-invariant-loop-d l = (l.c ≤ l.d) × (l.d ≤ l.n) × (length l.to ≡ 2 * cubic_count l.n)
-    × ((m : ℕ) → (g old : List ℕ) → CubicTable l.n m l.from → CubicTable l.n m g → Made l.n m l.back l.from g → Written g (count_of l.n) (triple_index l.n l.b l.c l.c) old l.initial.to → Written g (count_of l.n) (triple_index l.n l.b l.c l.d) old l.to)
-
-abbrev pub decreases-loop-d : goal.decreases-loop-d
-decreases-loop-d l = l.n - l.d
+invariant-loop-d l = (m : ℕ) → (g old : List ℕ) → CubicTable l.n m l.from → CubicTable l.n m g → Made l.n m l.back l.from g → Written g (count_of l.n) (triple_index l.n l.b l.c l.c) old l.initial.to → Written g (count_of l.n) (triple_index l.n l.b l.c l.d) old l.to

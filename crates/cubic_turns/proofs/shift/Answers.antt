@@ -1,5 +1,5 @@
 -- `cubic_turns::shift` meets its contract.
-use mathlib.Core.Path.{refl, sym, ◌∙◌}
+use mathlib.Core.Path.{sym, ◌∙◌}
 use native.Mathlib.Omega.{arith}
 use Rattle.tables.proofs.IndexLaw.{count_is}
 use Rattle.cubic_turns.proofs.LoopLaw.{pair_over, pair_first, first_put, pair_last}
@@ -11,18 +11,12 @@ vector-requires c = omega (arith, c.requires.2, count_is c.args.n)
 pub put_entry-requires : goal.put_entry-requires
 put_entry-requires c = omega (arith, c.requires.3, count_is c.args.n)
 
-pub shift_singles-requires : goal.shift_singles-requires
-shift_singles-requires c = let q = c.requires in (q.0, q.1, q.2, omega (arith, q.3, c.put_entry.auto.table))
-
 pub loop-b-init : goal.loop-b-init
 loop-b-init c =
     let a = c.args in
     let q = c.requires in
     let n = a.n in
-    (omega arith, refl, λ m h g old k l s w. pair_first n g old _ w)
-
-pub shift_pairs-requires : goal.shift_pairs-requires
-shift_pairs-requires c = let q = c.requires in (q.0, c.loop-b-test.true, q.1, q.2, omega (arith, q.3, c.put_entry.auto.table, c.shift_singles.auto.to, c.loop-b.invariant.1))
+    λ m h g old k l s w. pair_first n g old _ w
 
 pub loop-b-preserved : goal.loop-b-preserved
 loop-b-preserved c =
@@ -30,11 +24,7 @@ loop-b-preserved c =
     let q = c.requires in
     let n = a.n in
     let l = c.loop-b in
-    let i = l.invariant in
-    (omega arith, c.shift_pairs.auto.to ∙ i.1, λ m h g old k y s w. pair_over n l.b g old _ c.loop-b-test.true (c.shift_pairs.ensures m h g old k y s (i.2 m h g old k y s w)))
-
-pub shape_of-to : goal.shape_of-to
-shape_of-to c = c.loop-b.invariant.1 ∙ c.shift_singles.auto.to ∙ c.put_entry.auto.table
+    λ m h g old k y s w. pair_over n l.b g old _ c.loop-b-test.true (c.shift_pairs.ensures m h g old k y s (l.invariant m h g old k y s w))
 
 pub returns : goal.returns
 returns c =
@@ -43,5 +33,5 @@ returns c =
     let n = a.n in
     let l = c.loop-b in
     let old = a.to.now in
-    λ m h g k y s. pair_last n l.b g old l.to (omega (arith, l.invariant.0, c.loop-b-test.false))
-    (l.invariant.2 m h g old k y s (c.shift_singles.ensures m h g old k y s (rw c.put_entry.ensures (first_put n g old c.vector.result q.3 (c.vector.ensures ∙ sym s.first)))))
+    λ m h g k y s. pair_last n l.b g old l.to (omega (arith, l.auto.b-end, c.loop-b-test.false))
+    (l.invariant m h g old k y s (c.shift_singles.ensures m h g old k y s (rw c.put_entry.ensures (first_put n g old c.vector.result q.3 (c.vector.ensures ∙ sym s.first)))))

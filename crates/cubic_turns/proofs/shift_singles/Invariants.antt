@@ -1,7 +1,5 @@
-use mathlib.Core.Path.{◌≡◌}
 use mathlib.Core.List.{List}
-use Prim.Native.Nat.{ℕ, ◌+◌, ◌-◌, ◌<◌, ◌≤◌}
-use lib.ListN.{length}
+use Prim.Native.Nat.{ℕ, ◌+◌, ◌<◌}
 use Rattle.trits.specs.Trit.{Legal}
 use Rattle.tables.specs.Monomials.{count_of}
 use Rattle.tables.specs.Words.{entry, Written}
@@ -11,8 +9,4 @@ use Rattle.cubic_turns.specs.Parts.{Shifted}
 use Rattle.cubic_turns.proofs.shift_singles.Given as goal
 
 abbrev pub invariant-loop-b : goal.invariant-loop-b
-invariant-loop-b l = (l.b ≤ l.n) × (length l.to ≡ length l.initial.to)
-    × ((m : ℕ) → (h g old : List ℕ) → Known l.n m h (cubic_count l.n) l.cubes → ((k : ℕ) → k < count_of l.n → Legal m (entry l.from k)) → Shifted l.n m l.back h l.from g → Written g 0 1 old l.initial.to → Written g 0 (1 + l.b) old l.to)
-
-abbrev pub decreases-loop-b : goal.decreases-loop-b
-decreases-loop-b l = l.n - l.b
+invariant-loop-b l = (m : ℕ) → (h g old : List ℕ) → Known l.n m h (cubic_count l.n) l.cubes → ((k : ℕ) → k < count_of l.n → Legal m (entry l.from k)) → Shifted l.n m l.back h l.from g → Written g 0 1 old l.initial.to → Written g 0 (1 + l.b) old l.to

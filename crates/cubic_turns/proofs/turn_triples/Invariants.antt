@@ -1,17 +1,11 @@
-use mathlib.Core.Path.{◌≡◌}
 use mathlib.Core.List.{List}
-use Prim.Native.Nat.{ℕ, ◌-◌, ◌*◌, ◌≤◌}
-use lib.ListN.{length}
+use Prim.Native.Nat.{ℕ}
 use Rattle.tables.specs.Monomials.{count_of}
 use Rattle.tables.specs.Words.{Written}
-use Rattle.cubic_tables.specs.Order.{cubic_count, triple_index}
+use Rattle.cubic_tables.specs.Order.{triple_index}
 use Rattle.cubic_tables.specs.Words.{CubicTable}
 use Rattle.cubic_turns.specs.Parts.{Made}
 use Rattle.cubic_turns.proofs.turn_triples.Given as goal
 
 abbrev pub invariant-loop-b : goal.invariant-loop-b
-invariant-loop-b l = (l.b ≤ l.n) × (length l.to ≡ 2 * cubic_count l.n)
-    × ((m : ℕ) → (g : List ℕ) → CubicTable l.n m l.from → CubicTable l.n m g → Made l.n m l.back l.from g → Written g (count_of l.n) (triple_index l.n l.b l.b l.b) l.initial.to l.to)
-
-abbrev pub decreases-loop-b : goal.decreases-loop-b
-decreases-loop-b l = l.n - l.b
+invariant-loop-b l = (m : ℕ) → (g : List ℕ) → CubicTable l.n m l.from → CubicTable l.n m g → Made l.n m l.back l.from g → Written g (count_of l.n) (triple_index l.n l.b l.b l.b) l.initial.to l.to

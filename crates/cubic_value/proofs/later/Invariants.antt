@@ -9,8 +9,5 @@ use Rattle.cubic_value.proofs.later.Given as goal
 
 abbrev pub invariant-loop-c : goal.invariant-loop-c
 invariant-loop-c l =
-    (l.b + 2 ≤ l.c) × (l.c ≤ l.n) × (l.z ≡ l.q / 3 ^ l.c) × (l.f ≤ l.count) × Ready l.n 0 l.q l.at l.turn l.count (l.c + 1) l.f
+    (l.z ≡ l.q / 3 ^ l.c) × (l.f ≤ l.list.count) × Ready l.n 0 l.q l.list.at l.list.turn l.list.count (l.c + 1) l.f
     × ((m : ℕ) → CubicTable l.n m l.table → Holds m (λ e. (cubic_at l.n l.table e).lin l.b + sum (l.c - (l.b + 2)) (λ k. later_to (cubic_at l.n l.table e) l.n l.b (l.b + 2 + k) l.q)) l.v)
-
-abbrev pub decreases-loop-c : goal.decreases-loop-c
-decreases-loop-c l = l.n - l.c

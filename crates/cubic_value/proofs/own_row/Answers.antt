@@ -18,7 +18,7 @@ overflow_sub-base c = omega (arith, pair_low c.args.n c.args.b)
 pub weighed-requires : goal.weighed-requires
 weighed-requires c =
     let a = c.args in
-    let p = c.requires in record { n_le_most_unknowns = (p.0, omega arith, p.1, ap₂ (λ (x y : ℕ). x + (y - a.b)) c.key.ensures.0 c.pair.ensures.0, omega arith, p.2, p.5.skips.some, p.4); by_index = ready_late a.n 0 a.q a.at.now a.turn.now a.count (a.b + 2) a.from p.5 }
+    let p = c.requires in record { n_le_most_unknowns = (p.0, omega arith, p.1, ap₂ (λ (x y : ℕ). x + (y - a.b)) c.key.ensures.0 c.pair.ensures.0, omega arith, p.2, p.5.skips.some, p.4); by_index = ready_late a.n 0 a.q a.list.now.at a.list.now.turn a.list.now.count (a.b + 2) a.from p.5 }
 
 pub returns : goal.returns
 returns c =

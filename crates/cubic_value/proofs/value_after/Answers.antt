@@ -1,5 +1,5 @@
 -- `cubic_value::value_after` meets its contract. The loop's invariant: all entries that begin with an unknown below b are added, y is what is left of the
--- place over 3 to the b, and the listed unknowns from `from` on are those past b. The measure is what is left of the unknowns.
+-- place over 3 to the b, and the listed unknowns from `from` on are those past b.
 use mathlib.Core.Path.{◌≡◌, sym, ap, ◌∙◌, subst}
 use Prim.Native.Nat.{ℕ, ◌+◌, ◌/◌}
 use native.Mathlib.Nat.{pow-zero, div-one}
@@ -21,40 +21,35 @@ vector-v-requires c = omega (arith, cubic_count_low c.args.n, count_is c.args.n)
 pub loop-b-init : goal.loop-b-init
 loop-b-init c =
     let a = c.args in
-    let l = c.nonzero-l.result in
-    let one = ready_first a.n 0 a.q c.digits_at-x.result l.at l.turn l.count c.digits_at-x.ensures.0 c.digits_at-x.ensures.1 c.nonzero-l.ensures.0 in
-    (omega arith, sym (ap (λ (w : ℕ). a.q / w) (pow-zero 3) ∙ div-one a.q), omega arith, omega arith, one, λ m w. value_first a.n m a.table.now a.q w c.vector-v.ensures)
+    let l = c.nonzero-list.result in
+    let one = ready_first a.n 0 a.q c.digits_at-x.result l.at l.turn l.count c.digits_at-x.ensures.0 c.digits_at-x.ensures.1 c.nonzero-list.ensures.0 in
+    (sym (ap (λ (w : ℕ). a.q / w) (pow-zero 3) ∙ div-one a.q), omega arith, one, λ m w. value_first a.n m a.table.now a.q w c.vector-v.ensures)
 
 pub part-p-requires : goal.part-p-requires
 part-p-requires c =
     let a = c.args in
     let p = c.requires in
     let o = c.loop-b in
-    let l = c.nonzero-l.result in
+    let l = c.nonzero-list.result in
     let more : Ready a.n 0 a.q l.at l.turn l.count (o.b + 2) c.skip-from.result
     = let e : o.b + 1 + 1 ≡ o.b + 2 = omega arith in subst (λ (k : ℕ). Ready a.n 0 a.q l.at l.turn l.count k c.skip-from.result) e
-    (ready_skip a.n 0 a.q l.at l.turn l.count (o.b + 1) o.from c.skip-from.result c.skip-from.ensures.0 o.invariant.4) in
-    (p.1, omega arith, p.3, o.invariant.1, o.invariant.2, more)
-
-pub overflow_add-b-in-loop-b : goal.overflow_add-b-in-loop-b
-overflow_add-b-in-loop-b c = omega (arith, c.loop-b-test, c.requires.1)
+    (ready_skip a.n 0 a.q l.at l.turn l.count (o.b + 1) o.from c.skip-from.result c.skip-from.ensures.0 o.invariant.2) in
+    (p.1, omega arith, p.3, o.invariant.0, omega arith, more)
 
 pub loop-b-preserved : goal.loop-b-preserved
 loop-b-preserved c =
     let a = c.args in
     let p = c.requires in
     let o = c.loop-b in
-    let l = c.nonzero-l.result in
+    let l = c.nonzero-list.result in
     let more : Ready a.n 0 a.q l.at l.turn l.count (o.b + 2) c.skip-from.result
     = let e : o.b + 1 + 1 ≡ o.b + 2 = omega arith in subst (λ (k : ℕ). Ready a.n 0 a.q l.at l.turn l.count k c.skip-from.result) e
-    (ready_skip a.n 0 a.q l.at l.turn l.count (o.b + 1) o.from c.skip-from.result c.skip-from.ensures.0 o.invariant.4) in
+    (ready_skip a.n 0 a.q l.at l.turn l.count (o.b + 1) o.from c.skip-from.result c.skip-from.ensures.0 o.invariant.2) in
     let i : o.b + 2 ≡ o.b + 1 + 1 = omega arith in (
-      omega arith,
-      ap (λ (y : ℕ). y / 3) o.invariant.1 ∙ part_next a.q o.b,
-      o.invariant.2,
+      ap (λ (y : ℕ). y / 3) o.invariant.0 ∙ part_next a.q o.b,
       c.skip-from.ensures.1,
       subst (λ (k : ℕ). Ready a.n 0 a.q l.at l.turn l.count k c.skip-from.result) i more,
-      λ m w. value_more a.n m a.table.now a.q o.b c.add-v.ensures (o.invariant.5 m w) (c.part-p.ensures m w),
+      λ m w. value_more a.n m a.table.now a.q o.b c.add-v.ensures (o.invariant.3 m w) (c.part-p.ensures m w),
     )
 
 pub returns : goal.returns
@@ -62,5 +57,5 @@ returns c =
     let a = c.args in
     let p = c.requires in
     let o = c.loop-b in
-    let i : o.b ≡ a.n = omega arith in
-    λ m w. value_whole a.n m a.table.now a.q p.2 (subst (λ (k : ℕ). Holds m (λ e. value_to (cubic_at a.n a.table.now e) a.n a.q k) o.v) i (o.invariant.5 m w))
+    let i : o.b ≡ a.n = omega (arith, o.auto.b-end, c.requires.1, c.loop-b-test.false) in
+    λ m w. value_whole a.n m a.table.now a.q p.2 (subst (λ (k : ℕ). Holds m (λ e. value_to (cubic_at a.n a.table.now e) a.n a.q k) o.v) i (o.invariant.3 m w))

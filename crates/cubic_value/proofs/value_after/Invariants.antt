@@ -8,8 +8,5 @@ use Rattle.cubic_value.proofs.value_after.Given as goal
 
 abbrev pub invariant-loop-b : goal.invariant-loop-b
 invariant-loop-b l =
-    (l.b ≤ l.n) × (l.y ≡ l.q / 3 ^ l.b) × (l.count ≤ 20) × (l.from ≤ l.count) × Ready l.n 0 l.q l.at l.turn l.count (l.b + 1) l.from
+    (l.y ≡ l.q / 3 ^ l.b) × (l.from ≤ l.list.count) × Ready l.n 0 l.q l.list.at l.list.turn l.list.count (l.b + 1) l.from
     × ((m : ℕ) → CubicTable l.n m l.table → Holds m (λ e. value_to (cubic_at l.n l.table e) l.n l.q l.b) l.v)
-
-abbrev pub decreases-loop-b : goal.decreases-loop-b
-decreases-loop-b l = l.n - l.b

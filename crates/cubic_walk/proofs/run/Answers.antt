@@ -11,46 +11,13 @@ use Rattle.cubic_moves.proofs.NearLaw.{counts, step_near}
 use Rattle.walks.proofs.WalkedLaw.{walked_none, walked_on, goes_on, goes_no_more, goes_some}
 use Rattle.cubic_walk.proofs.run.Goals as goal
 
-pub loop-start-init : goal.loop-start-init
-loop-start-init c =
-    let a = c.args in
-    (refl, walked_none 3 (walk_of a.n (triple_at a.table.now a.n)) counts 3 a.end a.budget (fresh a.w a.list.now) record { place = c.requires.place_le_end; found = omega arith; additions = omega arith })
-
-pub overflow_sub-len : goal.overflow_sub-len
-overflow_sub-len c =
-    let l = c.loop-start in
-    let a = c.args in
-    let T = triple_at a.table.now a.n in
-    let g = goes_on 3 (walk_of a.n T) counts 3 a.end a.budget l.left (length a.list.now) _ (state_of l.r l.list) _ l.invariant.1 refl c.going.ensures c.loop-start-test.true in
-    omega (arith, g.found, l.invariant.0, l.invariant.1.list)
-
 pub steps-a-requires : goal.steps-a-requires
 steps-a-requires c =
     let o = c.loop-start.invariant.1.sound in
     record { sized = c.requires.sized; sane_2 = record { place = o.place; found = o.found; additions = o.additions } }
 
-pub overflow_sub-more : goal.overflow_sub-more
-overflow_sub-more c = omega (arith, c.steps-a.ensures.less)
-
-pub overflow_sub-more-in-loop-start : goal.overflow_sub-more-in-loop-start
-overflow_sub-more-in-loop-start c =
-    let l = c.loop-start in
-    let a = c.args in
-    let T = triple_at a.table.now a.n in
-    let g = goes_on 3 (walk_of a.n T) counts 3 a.end a.budget l.left (length a.list.now) _ (state_of l.r l.list) _ l.invariant.1 refl c.going.ensures c.loop-start-test.true in
-    let f = c.lead-first in
-    let h : 0 < f.result = f.ensures.1 g.left in
-    let x = c.steps-a in
-    omega (arith, x.ensures.less, f.ensures.0)
-
 pub leaps-r-requires : goal.leaps-r-requires
 leaps-r-requires c = record { sized = c.requires.sized; sane_2 = c.steps-a.ensures.sane }
-
-pub overflow_sub-left : goal.overflow_sub-left
-overflow_sub-left c = omega (arith, c.leaps-r.ensures.less)
-
-pub overflow_sub-left-in-loop-start : goal.overflow_sub-left-in-loop-start
-overflow_sub-left-in-loop-start c = omega (arith, c.leaps-r.ensures.less)
 
 pub loop-start-smaller : goal.loop-start-smaller
 loop-start-smaller c =

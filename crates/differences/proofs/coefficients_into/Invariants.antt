@@ -1,13 +1,7 @@
-use mathlib.Core.Path.{◌≡◌}
-use Prim.Native.Nat.{ℕ, ◌-◌, ◌*◌, ◌≤◌}
-use lib.ListN.{length}
-use Rattle.tables.specs.Monomials.{count_of}
+use Prim.Native.Nat.{ℕ}
 use Rattle.tables.specs.Words.{Table, coefficients_of}
 use Rattle.turns.specs.Parts.{Filled}
 use Rattle.differences.proofs.coefficients_into.Given as goal
 
 abbrev pub invariant-loop-i : goal.invariant-loop-i
-invariant-loop-i l = (l.i ≤ l.n) × (length l.to ≡ 2 * count_of l.n) × ((m : ℕ) → Table l.n m l.from → Filled (coefficients_of l.n m l.from) l.n l.i l.to)
-
-abbrev pub decreases-loop-i : goal.decreases-loop-i
-decreases-loop-i l = l.n - l.i
+invariant-loop-i l = (m : ℕ) → Table l.n m l.from → Filled (coefficients_of l.n m l.from) l.n l.i l.to

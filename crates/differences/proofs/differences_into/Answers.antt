@@ -1,5 +1,5 @@
 -- `differences::differences_into` meets its contract. The invariant: the unknowns before i are done.
-use mathlib.Core.Path.{◌≡◌, sym, ◌∙◌}
+use mathlib.Core.Path.{◌≡◌, ◌∙◌}
 use native.Mathlib.Omega.{arith}
 use Rattle.tables.specs.Words.{differences_of}
 use Rattle.tables.proofs.IndexLaw.{count_is}
@@ -20,31 +20,19 @@ loop-i-init c =
     let q = c.requires in
     let p = c.put_entry in
     let v = c.vector.ensures in
-    (omega arith, p.auto.table ∙ q.2, λ m t. rw p.ensures (filled_none a.n (differences_of a.n m a.from.now) a.to.now c.vector.result (omega (arith, count_is a.n)) (v ∙ differences_first a.n m a.from.now t)))
-
-pub product_before-p-requires : goal.product_before-p-requires
-product_before-p-requires c = let q = c.requires in (q.0, c.loop-i-test.true, q.1)
-
-pub turn-requires : goal.turn-requires
-turn-requires c = let q = c.requires in (q.0, c.loop-i-test.true, q.1, c.loop-i.invariant.1)
+    λ m t. rw p.ensures (filled_none a.n (differences_of a.n m a.from.now) a.to.now c.vector.result (omega (arith, count_is a.n)) (v ∙ differences_first a.n m a.from.now t))
 
 pub loop-i-preserved : goal.loop-i-preserved
 loop-i-preserved c =
     let a = c.args in
     let l = c.loop-i in
     let h = c.loop-i-test.true in
-    let b = c.product_before-p.ensures in (
-      omega arith,
-      c.turn.auto.to ∙ l.invariant.1,
-      λ m t. c.turn.ensures m (differences_of a.n m a.from.now) t (rw b (before_legal a.n m a.from.now l.i t h)) (rw b (differences_turned a.n m a.from.now l.i h)) (l.invariant.2 m t),
-    )
-
-pub shape_of-to : goal.shape_of-to
-shape_of-to c = c.loop-i.invariant.1 ∙ sym c.requires.2
+    let b = c.product_before.ensures in
+    λ m t. c.turn.ensures m (differences_of a.n m a.from.now) t (rw b (before_legal a.n m a.from.now l.i t h)) (rw b (differences_turned a.n m a.from.now l.i h)) (l.invariant m t)
 
 pub returns : goal.returns
 returns c =
     let a = c.args in
     let l = c.loop-i in
-    let e : l.i ≡ a.n = omega (arith, l.invariant.0, c.loop-i-test.false) in
-    λ m t. filled_all a.n (differences_of a.n m a.from.now) l.to (differences_table a.n m a.from.now).size l.invariant.1 (rw e at (l.invariant.2 m t))
+    let e : l.i ≡ a.n = omega arith in
+    λ m t. filled_all a.n (differences_of a.n m a.from.now) l.to (differences_table a.n m a.from.now).size (l.auto.to ∙ c.put_entry.auto.table ∙ c.requires.2) (rw e at (l.invariant m t))

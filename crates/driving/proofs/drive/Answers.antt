@@ -1,11 +1,10 @@
 -- `driving::drive` keeps its contract and ends: the bytes are counted before each call, and each call but the last examines points.
 use mathlib.Core.Path.{refl, sym, ◌∙◌}
-use mathlib.Core.Bool.{true≢false}
 use Prim.Native.Nat.{◌≤◌}
 use lib.Seq.{length-take-le}
 use native.Mathlib.Omega.{arith}
 use Rattle.planner.proofs.DriveLaw.{falls}
-use Rattle.driving.proofs.CountLaw.{counted_first, sum_fits, short, counted_next, all_taken, totals_are}
+use Rattle.driving.proofs.CountLaw.{counted_first, sum_fits, short, counted_next, all_taken, totals_told}
 use Rattle.driving.proofs.drive.Goals as goal
 
 pub loop-s-init : goal.loop-s-init
@@ -35,7 +34,7 @@ returns-then-got-used c =
     let l = c.loop-s in
     let k = c.next-s in
     let b = k.new.text in
-    record { all = short a.table.now a.begun a.first l.s l.sent l.invariant.0 b k.result c.loop-s-test.true k.ensures.0 (omega (arith, k.auto.text, l.invariant.5)) c.send-got.result c.if-got-used.true; totals = λ e. absurd (true≢false (sym e)) }
+    record { all = short a.table.now a.begun a.first l.s l.sent l.invariant.0 b k.result c.loop-s-test.true k.ensures.0 (omega (arith, k.auto.text, l.invariant.5)) c.send-got.result c.if-got-used.true; totals = λ w e. cc }
 
 pub loop-s-smaller : goal.loop-s-smaller
 loop-s-smaller c = falls c.args.table.now c.loop-s.s c.next-s.new.text c.next-s.result c.loop-s-test.true c.next-s.ensures.0
@@ -59,4 +58,4 @@ pub returns : goal.returns
 returns c =
     let a = c.args in
     let l = c.loop-s in
-    record { all = all_taken a.table.now a.begun a.first l.s l.sent l.invariant.0 c.loop-s-test.false; totals = λ e. totals_are a.table.now a.begun a.first l.s l.sent l.invariant.0 c.loop-s-test.false }
+    record { all = all_taken a.table.now a.begun a.first l.s l.sent l.invariant.0 c.loop-s-test.false; totals = λ w e. totals_told a.table.now a.begun a.first l.s l.sent l.invariant.0 c.loop-s-test.false w e }

@@ -8,4 +8,4 @@ pub returns : goal.returns
 returns c =
     let a = c.args in
     let g = a.g in
-    (refl, refl, refl, refl, refl, ends_joined g.count g.one g.other a.a a.b (search rules) (search rules))
+    (refl, refl, refl, refl, ends_joined g.count g.one g.other a.a a.b (search rules) (search rules))

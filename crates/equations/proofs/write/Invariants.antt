@@ -1,5 +1,5 @@
 use mathlib.Core.Path.{◌≡◌}
-use Prim.Native.Nat.{◌-◌, ◌*◌, ◌≤◌}
+use Prim.Native.Nat.{◌*◌}
 use lib.ListN.{length}
 use Rattle.tables.specs.Monomials.{count_of}
 use Rattle.tables.specs.Words.{words_of}
@@ -8,7 +8,4 @@ use Rattle.graphs.specs.Scans.{edges_of}
 use Rattle.equations.proofs.write.Given as goal
 
 abbrev pub invariant-loop-e : goal.invariant-loop-e
-invariant-loop-e l = (l.e ≤ l.g.count) × (l.n ≡ l.g.vertices) × (length l.table ≡ 2 * count_of l.g.vertices) × (l.table ≡ words_of l.g.vertices l.e (system_of (edges_of l.g)))
-
-abbrev pub decreases-loop-e : goal.decreases-loop-e
-decreases-loop-e l = l.g.count - l.e
+invariant-loop-e l = (length l.table ≡ 2 * count_of l.g.vertices) × (l.table ≡ words_of l.g.vertices l.e (system_of (edges_of l.g)))

@@ -8,14 +8,8 @@ use Rattle.tables.proofs.IndexLaw.{count_is, count_le}
 use Rattle.evaluation.proofs.EvaluateLaw.{lin_holds, index_ge, row_room, row_holds, row_sum}
 use Rattle.evaluation.proofs.row_value.Goals as goal
 
-pub index-requires : goal.index-requires
-index-requires c = let q = c.requires in (q.0, omega arith, q.4.below _ q.1)
-
 pub overflow_sub-base : goal.overflow_sub-base
 overflow_sub-base c = let a = c.args in let q = c.requires in omega (arith, c.index.ensures.0, index_ge a.n (get_or a.at.now a.s 0) (q.4.below a.s q.1))
-
-pub overflow_add-i : goal.overflow_add-i
-overflow_add-i c = let a = c.args in let q = c.requires in omega (arith, q.4.below a.s q.1, q.0)
 
 pub vector-seed-requires : goal.vector-seed-requires
 vector-seed-requires c = let a = c.args in let q = c.requires in omega (arith, q.4.below a.s q.1, count_is a.n, q.3)

@@ -16,28 +16,23 @@ vector-v-requires c = let a = c.args in let q = c.requires in omega (arith, coun
 pub loop-s-init : goal.loop-s-init
 loop-s-init c =
     let a = c.args in let q = c.requires in
-    (omega arith, λ m x w g. row_begun m (λ e. (poly_at a.n a.table.now e).const) _ _ (λ e. first_begun a.n x a.at.now a.turn.now a.count g (λ k. row_of (poly_at a.n a.table.now e) a.n k x)) (rw c.vector-v.ensures (const_holds a.n m a.table.now w)))
-
-pub row_value-requires : goal.row_value-requires
-row_value-requires c = let q = c.requires in (q.0, c.loop-s-test.true, q.1, q.2, q.3)
+    λ m x w g. row_begun m (λ e. (poly_at a.n a.table.now e).const) _ _ (λ e. first_begun a.n x a.at.now a.turn.now a.count g (λ k. row_of (poly_at a.n a.table.now e) a.n k x)) (rw c.vector-v.ensures (const_holds a.n m a.table.now w))
 
 pub loop-s-preserved : goal.loop-s-preserved
 loop-s-preserved c =
     let a = c.args in let q = c.requires in
     let l = c.loop-s in
-    let b = c.loop-s-test.true in (
-      omega arith,
-      λ m x w g.
-          row_more a.n x a.at.now a.turn.now a.count g l.s b 0 (omega arith) m
-          (λ e. (poly_at a.n a.table.now e).const) (λ e k. row_of (poly_at a.n a.table.now e) a.n k x) l.v c.turned-w.result c.add-v.result (l.invariant.1 m x w g)
-          (c.turned-w.ensures m (x (get_or a.at.now l.s 0)) _ (g.digit l.s b).0 (g.digit l.s b).1 (g.mask l.s b) (c.row_value.ensures m x w g)) c.add-v.ensures,
-    )
+    let b = c.loop-s-test.true in
+    λ m x w g.
+    row_more a.n x a.at.now a.turn.now a.count g l.s b 0 (omega arith) m
+    (λ e. (poly_at a.n a.table.now e).const) (λ e k. row_of (poly_at a.n a.table.now e) a.n k x) l.v c.turned.result c.add-v.result (l.invariant m x w g)
+    (c.turned.ensures m (x (get_or a.at.now l.s 0)) _ (g.digit l.s b).0 (g.digit l.s b).1 (g.mask l.s b) (c.row_value.ensures m x w g)) c.add-v.ensures
 
 pub returns : goal.returns
 returns c =
     let a = c.args in
     let l = c.loop-s in
-    let e : l.s ≡ a.count = omega (arith, l.invariant.0, c.loop-s-test.false) in
+    let e : l.s ≡ a.count = omega arith in
     λ m x w g.
     let k : get_or a.at.now l.s 0 ≡ a.n = ap (λ (j : ℕ). get_or a.at.now j 0) e ∙ g.last in
-    whole_sum m a.n (poly_at a.n a.table.now) x _ (rw k at (l.invariant.1 m x w g))
+    whole_sum m a.n (poly_at a.n a.table.now) x _ (rw k at (l.invariant m x w g))

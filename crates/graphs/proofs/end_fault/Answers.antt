@@ -1,26 +1,26 @@
 -- `graphs::end_fault` meets its contract.
-use native.Mathlib.Omega.{arith}
-use borrow.Author.Tests.{not-true, not-false}
-use Rattle.graphs.specs.Scans.{edges_of}
-use Rattle.graphs.proofs.ReadLaw.{end_early, end_few, end_many, end_same}
+use mathlib.Core.Path.{◌≡◌, ap, sym, ◌∙◌}
+use Rattle.std.proofs.Common.{Err, Some, None, rules}
+use Rattle.refusals.specs.declared.Refusal.TheVariants as why
+use Rattle.graphs.specs.Scans.{state_of, edges_of, ended}
+use Rattle.graphs.specs.Reading.{end_of}
+use Rattle.graphs.proofs.ReadLaw.{end_early, end_other, end_same}
 use Rattle.graphs.proofs.end_fault.Goals as goal
 
-pub returns-then-not-g : goal.returns-then-not-g
-returns-then-not-g c =
-    let g = c.args.g in
-    end_early g.vertices g.edges g.lines (edges_of g) (not-true g.known c.if-not-g.true)
+pub returns-in_err-g : goal.returns-in_err-g
+returns-in_err-g c =
+    let n : c.args.g ≡ None = search rules in
+    let e : c.from_residual.result ≡ Err why.Order = search rules in
+    (ap ended e ∙ end_early ∙ ap (λ x. end_of (state_of x)) (sym n), rw e tt)
 
 pub returns-then-g : goal.returns-then-g
 returns-then-g c =
-    let g = c.args.g in
-    end_few g.vertices g.edges g.lines (edges_of g) (not-false g.known c.if-not-g.false) c.if-g.true
-
-pub returns-then-g-2 : goal.returns-then-g-2
-returns-then-g-2 c =
-    let g = c.args.g in
-    end_many g.vertices g.edges g.lines (edges_of g) (not-false g.known c.if-not-g.false) c.if-g-2.true
+    let g = c.in_ok-g.g in
+    let n : c.args.g ≡ Some g = search rules in
+    (end_other g.vertices g.edges g.lines (edges_of g) c.if-g.true ∙ ap (λ x. end_of (state_of x)) (sym n), tt)
 
 pub returns : goal.returns
 returns c =
-    let g = c.args.g in
-    end_same g.vertices g.edges g.lines (edges_of g) (not-false g.known c.if-not-g.false) (omega (arith, c.if-g.false, c.if-g-2.false))
+    let g = c.in_ok-g.g in
+    let n : c.args.g ≡ Some g = search rules in
+    (end_same g.vertices g.edges g.lines (edges_of g) c.if-g.false ∙ ap (λ x. end_of (state_of x)) (sym n), n)

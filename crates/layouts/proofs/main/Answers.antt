@@ -5,10 +5,7 @@ use Rattle.streams.specs.Counts.{bytes_of}
 use Rattle.layouts.proofs.main.Goals as goal
 
 pub slice_bounds-buf-end : goal.slice_bounds-buf-end
-slice_bounds-buf-end c = rw (sym (ap bytes_of c.in-Bytes.is)) c.receive.ensures
+slice_bounds-buf-end c = rw (sym (ap bytes_of c.in-Ok.is)) c.receive.ensures
 
 pub slice_bounds-run-end : goal.slice_bounds-run-end
-slice_bounds-run-end c = sym (length-take-le _ c.receive.new.buf (rw (sym (ap bytes_of c.in-Bytes.is)) c.receive.ensures))
-
-pub slice_bounds-tell-end : goal.slice_bounds-tell-end
-slice_bounds-tell-end c = sym (length-take-le c.run-ending.result.told c.run-ending.new.text c.run-ending.ensures.fits)
+slice_bounds-run-end c = sym (length-take-le c.in-Ok.k c.receive.new.buf (rw (sym (ap bytes_of c.in-Ok.is)) c.receive.ensures))

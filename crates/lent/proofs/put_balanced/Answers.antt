@@ -1,16 +1,17 @@
--- `lent::put_balanced` meets its contract: each arm is a clause of the definitions.
+-- `lent::put_balanced` meets its contract: each branch is a clause of the definitions.
 use mathlib.Core.Path.{sym, ap, ◌∙◌}
 use mathlib.Core.List.{[], ◌∷◌}
 use lib.IntN.{ℤ}
 use mir.Syntax.{w64}
 use mir.ValLaws.{to_z-of_z}
-use Rattle.balanced.specs.declared.BalancedAnswer.{BalancedAnswer}
-use Rattle.balanced.specs.Answers.{balanced_told}
+use Rattle.std.proofs.Common.{rules}
+use Rattle.balanced.specs.Answers.{BalancedAnswer}
 use Rattle.lent.specs.Lent.{balanced_put}
 use Rattle.lent.proofs.LentLaw.{set_one}
 use Rattle.lent.proofs.put_balanced.Goals as goal
 
-pub returns-in-At : goal.returns-in-At
-returns-in-At c =
-    let e = c.in-At.is in
-    (sym (ap (λ (z : BalancedAnswer). (balanced_told z).0) e), set_one c.args.number.now _ c.requires ∙ ap (λ (z : ℤ). z ∷ []) (to_z-of_z w64 _ (record { sfits = c.in-At.known_told-1-own.given.0.1 })) ∙ sym (ap (λ (z : BalancedAnswer). balanced_put z c.args.number.now) e))
+pub returns-clause-left : goal.returns-clause-left
+returns-clause-left c =
+    let n = c.args.number.now in
+    let b = c.branch-y in
+    set_one n _ c.requires ∙ ap (λ (z : ℤ). z ∷ []) (to_z-of_z w64 _ (search rules)) ∙ sym (ap (λ (z : BalancedAnswer). balanced_put z n) c.in_ok-y.was)

@@ -1,12 +1,11 @@
--- `lent::put_value` meets its contract: each arm is a clause of the definitions.
+-- `lent::put_value` meets its contract: each branch is a clause of the definitions.
 use mathlib.Core.Path.{sym, ap, ◌∙◌}
-use Rattle.tables.specs.declared.Evaluated.{Evaluated}
-use Rattle.tables.specs.Answers.{evaluated_code}
+use Rattle.tables.specs.Answers.{Evaluated}
 use Rattle.lent.specs.Lent.{value_put}
 use Rattle.lent.proofs.LentLaw.{set_two}
 use Rattle.lent.proofs.put_value.Goals as goal
 
-pub returns-in-Value : goal.returns-in-Value
-returns-in-Value c =
-    let e = c.in-Value.is in
-    (sym (ap evaluated_code e), set_two c.args.value.now _ _ c.requires ∙ sym (ap (λ (z : Evaluated). value_put z c.args.value.now) e))
+pub returns-clause-left : goal.returns-clause-left
+returns-clause-left c =
+    let l = c.args.value.now in
+    set_two l _ _ c.requires ∙ sym (ap (λ (z : Evaluated). value_put z l) c.in_ok-v.was)

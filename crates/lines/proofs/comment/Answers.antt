@@ -1,13 +1,14 @@
 -- `lines::comment` meets its contract.
 use mathlib.Core.Path.{sym, ◌∙◌}
-use Rattle.lines.proofs.LineLaw.{comment_bytes, comment_alone, comment_none}
+use Rattle.lines.proofs.LineLaw.{comment_alone, comment_other}
 use Rattle.lines.proofs.comment.Goals as goal
 
-pub returns-then-begins : goal.returns-then-begins
-returns-then-begins c = comment_bytes c.args.line.now (sym c.begins.ensures ∙ c.if-begins.true)
+pub returns-then-eq : goal.returns-then-eq
+returns-then-eq c =
+    let e = sym c.if-eq.ensures in
+    c.if-eq.true ∙ comment_alone c.args.line.now (rw c.as_slice.ensures at e)
 
-pub returns-then-line-eq1 : goal.returns-then-line-eq1
-returns-then-line-eq1 c = c.begins-then-line-eq1.ensures ∙ comment_alone c.args.line.now (sym c.begins.ensures ∙ c.if-begins.false) c.if-line-eq1.true
-
-pub returns : goal.returns
-returns c = comment_none c.args.line.now (sym c.begins.ensures ∙ c.if-begins.false) c.if-line-eq1.false
+pub returns-else-eq : goal.returns-else-eq
+returns-else-eq c =
+    let e = sym c.if-eq.ensures in
+    c.begins.ensures ∙ comment_other c.args.line.now (rw c.as_slice.ensures at e)

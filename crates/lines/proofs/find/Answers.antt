@@ -1,25 +1,15 @@
--- `lines::find` meets its contract: the count so far and what the rest gives are the whole.
-use native.Mathlib.Omega.{arith}
-use Rattle.lines.proofs.LineLaw.{find_here, find_next, find_end}
+-- `lines::find` meets its contract.
+use Rattle.std.proofs.Common.{◌≡◌, sym, ◌∙◌, arith, rules}
+use Rattle.std.proofs.lemmas.Iterator.{IsFirst-from_position, YieldsList-from_slice}
+use borrow.Author.Tests.{tests}
+use Rattle.lines.specs.Lines.{first_of}
+use Rattle.lines.proofs.LineLaw.{first_found, first_le}
 use Rattle.lines.proofs.find.Goals as goal
-
-pub loop-i-init : goal.loop-i-init
-loop-i-init c = (omega arith, omega arith)
-
-pub returns-then-bytes-i : goal.returns-then-bytes-i
-returns-then-bytes-i c =
-    let l = c.loop-i in
-    let a = c.args in
-    (omega (arith, find_here a.b a.bytes.now l.i (omega arith) c.if-bytes-i.true, l.invariant), omega arith)
-
-pub loop-i-preserved : goal.loop-i-preserved
-loop-i-preserved c =
-    let l = c.loop-i in
-    let a = c.args in
-    (omega arith, omega (arith, find_next a.b a.bytes.now l.i (omega arith) c.if-bytes-i.false, l.invariant))
 
 pub returns : goal.returns
 returns c =
-    let l = c.loop-i in
-    let a = c.args in
-    (omega (arith, find_end a.b a.bytes.now l.i (omega arith), l.invariant), omega arith)
+    let b = c.args.b in
+    let s = c.args.bytes.now in
+    let f = first_found b s c.position.result (IsFirst-from_position _ _ c.position.result (λ x. x ≡ b) (λ x. x ≡ b → ⊥) c.position.ensures.ran (YieldsList-from_slice s cc) (λ x q k. search (rules, tests)) (λ x q k. search (rules, tests))) in
+    let e : c.unwrap_or.result ≡ first_of b s = c.unwrap_or.ensures ∙ sym f in
+    (e, omega (arith, e, first_le b s))

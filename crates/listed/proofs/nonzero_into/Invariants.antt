@@ -1,11 +1,7 @@
-use mathlib.Core.Path.{◌≡◌}
-use Prim.Native.Nat.{◌-◌, ◌%◌, ◌≤◌}
-use lib.ListN.{length, get_or}
+use Prim.Native.Nat.{◌%◌, ◌≤◌}
+use lib.ListN.{get_or}
 use Rattle.listed.specs.Lists.{Lists}
 use Rattle.listed.proofs.nonzero_into.Given as goal
 
 abbrev pub invariant-loop-k : goal.invariant-loop-k
-invariant-loop-k l = (l.k ≤ l.n) × (l.count ≤ l.k) × (length l.at ≡ 21) × (length l.turn ≡ 20) × Lists l.k (λ j. get_or l.x j 0 % 3) l.at l.turn l.count
-
-abbrev pub decreases-loop-k : goal.decreases-loop-k
-decreases-loop-k l = l.n - l.k
+invariant-loop-k l = (l.count ≤ l.k) × Lists l.k (λ j. get_or l.x j 0 % 3) l.at l.turn l.count

@@ -3,30 +3,18 @@ use mathlib.Core.Path.{◌≡◌, ap, ◌∙◌}
 use Prim.Native.Nat.{ℕ}
 use native.Mathlib.Omega.{arith}
 use lib.ListN.{get_or}
-use Rattle.listed.proofs.ListLaw.{listed_rise, row_begun, row_more}
+use Rattle.listed.proofs.ListLaw.{listed_rise, row_more}
 use Rattle.listed.proofs.row.Goals as goal
-
-pub loop-t-init : goal.loop-t-init
-loop-t-init c = (omega arith, omega (arith, c.requires.from_le_count), λ m n i x s h g o y z w. row_begun m s _ _ z y)
-
-pub overflow_add-base : goal.overflow_add-base
-overflow_add-base c = let q = c.requires in let l = c.loop-t in omega (arith, q.from_le_count.2, (q.by_index l.t l.invariant.0 c.loop-t-test.true).0)
-
-pub vector-requires : goal.vector-requires
-vector-requires c = let q = c.requires in let l = c.loop-t in (q.by_index l.t l.invariant.0 c.loop-t-test.true).1
 
 pub loop-t-preserved : goal.loop-t-preserved
 loop-t-preserved c =
     let a = c.args in
     let l = c.loop-t in
-    let b = c.loop-t-test.true in (
-      omega arith,
-      omega arith,
-      λ m n i x s h g o y z w.
-          let p = listed_rise n x a.at.now a.turn.now a.count g a.from l.t l.invariant.0 b in
-          row_more n x a.at.now a.turn.now a.count g l.t b i (omega arith) m s h l.v c.turned-w.result c.add-v.result (l.invariant.2 m n i x s h g o y z w)
-          (c.turned-w.ensures m (x (get_or a.at.now l.t 0)) _ (g.digit l.t b).0 (g.digit l.t b).1 (g.mask l.t b) (rw c.vector.ensures (w l.t l.invariant.0 b))) c.add-v.ensures,
-    )
+    let b = c.loop-t-test.true in
+    λ m n i x s h g o y z w.
+    let p = listed_rise n x a.at.now a.turn.now a.count g a.from l.t (omega arith) b in
+    row_more n x a.at.now a.turn.now a.count g l.t b i (omega arith) m s h l.v c.turned.result c.add-v.result (l.invariant m n i x s h g o y z w)
+    (c.turned.ensures m (x (get_or a.at.now l.t 0)) _ (g.digit l.t b).0 (g.digit l.t b).1 (g.mask l.t b) (rw c.vector.ensures (w l.t (omega arith) b))) c.add-v.ensures
 
 pub returns : goal.returns
 returns c =
@@ -35,4 +23,4 @@ returns c =
     let e : l.t ≡ a.count = omega (arith, c.loop-t-test.false) in
     λ m n i x s h g o y z w.
     let k : get_or a.at.now l.t 0 ≡ n = ap (λ (j : ℕ). get_or a.at.now j 0) e ∙ g.last in
-    rw k at (l.invariant.2 m n i x s h g o y z w)
+    rw k at (l.invariant m n i x s h g o y z w)

@@ -17,40 +17,40 @@ use Rattle.lists.proofs.part.Goals as goal
 pub slice_bounds-ran-end-2 : goal.slice_bounds-ran-end-2
 slice_bounds-ran-end-2 c =
     let a = c.args in
-    sym (length-take-le c.lesser-c.result a.words.now (omega (arith, c.lesser-c.ensures)))
+    sym (length-take-le c.min-c.result a.words.now (omega (arith, c.min-c.ensures)))
 
 pub slice_bounds-encode-end : goal.slice_bounds-encode-end
 slice_bounds-encode-end c =
     let a = c.args in
-    let n = c.lesser-c.result in
-    let h : n ≤ length a.words.now = omega (arith, c.lesser-c.ensures) in
-    let e = ap (λ (w : Report). w.found) c.did-this.ensures in
+    let n = c.min-c.result in
+    let h : n ≤ length a.words.now = omega (arith, c.min-c.ensures) in
+    let e = ap (λ (w : Report). w.found) c.did-k.ensures in
     omega (arith, e, piece_fits (table_with a.degree a.n a.m a.table.now) a.f.place.0 a.left n a.words.now c.ran-o.new.list (outcome_with a.degree c.ran-o.result c.ran-o.new.seconds) h c.ran-o.ensures.0 c.ran-o.ensures.1, piece_long (table_with a.degree a.n a.m a.table.now) a.f.place.0 a.left n a.words.now c.ran-o.new.list (outcome_with a.degree c.ran-o.result c.ran-o.new.seconds) h c.ran-o.ensures.0 c.ran-o.ensures.1, h)
 
 pub slice_bounds-encode-end-2 : goal.slice_bounds-encode-end-2
 slice_bounds-encode-end-2 c =
     let a = c.args in
-    let n = c.lesser-c.result in
-    let h : n ≤ length a.words.now = omega (arith, c.lesser-c.ensures) in
-    let e = ap (λ (w : Report). w.found) c.did-this.ensures in
+    let n = c.min-c.result in
+    let h : n ≤ length a.words.now = omega (arith, c.min-c.ensures) in
+    let e = ap (λ (w : Report). w.found) c.did-k.ensures in
     e ∙ sym (piece_size (table_with a.degree a.n a.m a.table.now) a.f.place.0 a.left n a.words.now c.ran-o.new.list (outcome_with a.degree c.ran-o.result c.ran-o.new.seconds) h c.ran-o.ensures.0 c.ran-o.ensures.1) ∙ ap (λ (i : ℕ). length (take i (c.ran-o.new.list ++ drop n a.words.now))) (sym e)
 
 pub encode-requires : goal.encode-requires
 encode-requires c =
     let a = c.args in
-    let n = c.lesser-c.result in
-    let h : n ≤ length a.words.now = omega (arith, c.lesser-c.ensures) in
-    let e = ap (λ (w : Report). w.found) c.did-this.ensures in
+    let n = c.min-c.result in
+    let h : n ≤ length a.words.now = omega (arith, c.min-c.ensures) in
+    let e = ap (λ (w : Report). w.found) c.did-k.ensures in
     let i = ap (λ (i : ℕ). length (take i (c.ran-o.new.list ++ drop n a.words.now))) e ∙ piece_size (table_with a.degree a.n a.m a.table.now) a.f.place.0 a.left n a.words.now c.ran-o.new.list (outcome_with a.degree c.ran-o.result c.ran-o.new.seconds) h c.ran-o.ensures.0 c.ran-o.ensures.1 in
-    omega (arith, i, piece_fits (table_with a.degree a.n a.m a.table.now) a.f.place.0 a.left n a.words.now c.ran-o.new.list (outcome_with a.degree c.ran-o.result c.ran-o.new.seconds) h c.ran-o.ensures.0 c.ran-o.ensures.1, c.lesser-c.ensures, c.requires.2)
+    omega (arith, i, piece_fits (table_with a.degree a.n a.m a.table.now) a.f.place.0 a.left n a.words.now c.ran-o.new.list (outcome_with a.degree c.ran-o.result c.ran-o.new.seconds) h c.ran-o.ensures.0 c.ran-o.ensures.1, c.min-c.ensures, c.requires.2)
 
 pub returns : goal.returns
 returns c =
     let a = c.args in
-    let n = c.lesser-c.result in
-    let h : n ≤ length a.words.now = omega (arith, c.lesser-c.ensures) in
-    let e = ap (λ (w : Report). w.found) c.did-this.ensures in
-    let i = c.lesser-c.ensures in (
+    let n = c.min-c.result in
+    let h : n ≤ length a.words.now = omega (arith, c.min-c.ensures) in
+    let e = ap (λ (w : Report). w.found) c.did-k.ensures in
+    let i = c.min-c.ensures in (
       piece_outcome (table_with a.degree a.n a.m a.table.now) a.f.place.0 a.left n a.words.now c.ran-o.new.list (outcome_with a.degree c.ran-o.result c.ran-o.new.seconds) h c.ran-o.ensures.0 c.ran-o.ensures.1 ∙ ap (ran_of (table_with a.degree a.n a.m a.table.now) a.f.place.0 a.left) i,
       c.encode.ensures
           ∙ ap (λ (f : List ℕ). pasted a.list.now (8 * a.at) (bytes_from f)) (

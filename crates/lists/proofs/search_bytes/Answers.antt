@@ -12,7 +12,7 @@ use Rattle.opening.specs.First.{lent_words, seconds_from, whole_of}
 use Rattle.outcomes.specs.Search.{list_left}
 use Rattle.outcomes.specs.First.{first_for, joined_of}
 use Rattle.outcomes.proofs.FirstLaw.{lent_most, lent_front, parts_verdict, parts_joined}
-use Rattle.refusals.specs.declared.Verdict.{Verdict}
+use Rattle.refusals.specs.Refusal.{Verdict}
 use Rattle.refusals.specs.Refusal.{after}
 use Rattle.codec.specs.Codec.{words_in, bytes_from, pasted}
 use Rattle.lists.specs.Listed.{found_in, outcome_in, list_in}

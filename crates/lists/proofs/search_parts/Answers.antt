@@ -12,16 +12,16 @@ use Rattle.lists.proofs.search_parts.Goals as goal
 pub filled-requires : goal.filled-requires
 filled-requires c =
     let a = c.args in
-    let p = passed (table_with a.degree a.n a.m a.table.now) (whole_of a.degree a.f a.seconds.now) a.budget (length a.list.now / 8) (sym c.judged-verdict.ensures ∙ c.in-Done.is) in
+    let p = passed (table_with a.degree a.n a.m a.table.now) (whole_of a.degree a.f a.seconds.now) a.budget (length a.list.now / 8) (sym c.judged-verdict.ensures ∙ c.in-Ok.is) in
     (p.checked, p.own, omega arith, c.requires)
 
-pub returns-in-Refused : goal.returns-in-Refused
-returns-in-Refused c =
+pub returns-in-Err : goal.returns-in-Err
+returns-in-Err c =
     let a = c.args in
-    listed_refused (table_with a.degree a.n a.m a.table.now) (whole_of a.degree a.f a.seconds.now) a.budget a.list.now _ (sym c.judged-verdict.ensures ∙ c.in-Refused.is)
+    listed_refused (table_with a.degree a.n a.m a.table.now) (whole_of a.degree a.f a.seconds.now) a.budget a.list.now _ (sym c.judged-verdict.ensures ∙ c.in-Err.is)
 
-pub returns-in-Done : goal.returns-in-Done
-returns-in-Done c =
+pub returns-in-Ok : goal.returns-in-Ok
+returns-in-Ok c =
     let a = c.args in
     let f = c.filled in
-    listed_done (table_with a.degree a.n a.m a.table.now) (whole_of a.degree a.f a.seconds.now) a.budget a.list.now (sym c.judged-verdict.ensures ∙ c.in-Done.is) _ _ f.ensures.0 f.ensures.1
+    listed_done (table_with a.degree a.n a.m a.table.now) (whole_of a.degree a.f a.seconds.now) a.budget a.list.now (sym c.judged-verdict.ensures ∙ c.in-Ok.is) _ _ f.ensures.0 f.ensures.1

@@ -25,8 +25,8 @@ returns-then-rest-eq1 c =
     let h : 0 < a.place = above a.place a.b a.rest q.2 (omega (arith, c.if-rest-eq1)) in
     record { state = (λ st hv ha hs l. head_one a.n (product a.table.now a.n) a.place a.b st _ h q.1 z (sym hs) (v.0 ∙ rw (hv, hs)) (omega arith)); count = omega arith }
 
-pub overflow_add-c : goal.overflow_add-c
-overflow_add-c c =
+pub overflow_add-b : goal.overflow_add-b
+overflow_add-b c =
     let a = c.args in
     let q = c.requires.place_bound in
     let o : 1 < a.rest = omega arith in

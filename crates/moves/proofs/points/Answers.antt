@@ -22,37 +22,24 @@ pub loop-i-init : goal.loop-i-init
 loop-i-init c =
     let a = c.args in
     let e : 0 ≡ a.from - a.from = omega arith in
-    (omega arith, omega arith, refl, sym (turned_none (point_of 3 a.n) a.from a.list.now) ∙ ap (λ (k : ℕ). turned_in (point_of 3 a.n) a.from k a.list.now) e)
+    (omega arith, refl, sym (turned_none (point_of 3 a.n) a.from a.list.now) ∙ ap (λ (k : ℕ). turned_in (point_of 3 a.n) a.from k a.list.now) e)
 
-pub bounds-list-i : goal.bounds-list-i
-bounds-list-i c = omega (arith, c.loop-i-test, c.loop-i.invariant.2, c.requires)
-
-pub point_near-point-requires : goal.point_near-point-requires
-point_near-point-requires c =
+pub point_near-requires : goal.point_near-requires
+point_near-requires c =
     (c.requires.0, c.requires.1, ap (λ (x : ℕ). 27 * x) c.point_at-first.ensures)
-
-pub bounds-list-i-in-loop-i : goal.bounds-list-i-in-loop-i
-bounds-list-i-in-loop-i c = omega (arith, c.loop-i-test, c.loop-i.invariant.2, c.requires)
-
-pub overflow_add-i : goal.overflow_add-i
-overflow_add-i c = omega (arith, c.loop-i-test, c.ranges)
-
-pub loop-i-smaller : goal.loop-i-smaller
-loop-i-smaller c = omega (arith, c.loop-i-test)
 
 pub loop-i-preserved : goal.loop-i-preserved
 loop-i-preserved c =
     let l = c.loop-i in
     let a = c.args in
-    let t = c.loop-i-test in
-    (omega (arith, l.invariant.0), omega (arith, l.invariant.0, t), length-set l.list l.i _ ∙ l.invariant.2, turned_step (point_of 3 a.n) a.from l.i _ a.list.now l.list l.invariant.0 l.invariant.3 c.point_near-point.ensures)
+    (omega (arith, l.invariant.0), length-set l.list l.i _ ∙ l.invariant.1, turned_step (point_of 3 a.n) a.from l.i _ a.list.now l.list l.invariant.0 l.invariant.2 c.point_near.ensures)
 
 pub shape_of-list : goal.shape_of-list
-shape_of-list c = c.loop-i.invariant.2
+shape_of-list c = c.loop-i.invariant.1
 
 pub returns : goal.returns
 returns c =
     let l = c.loop-i in
     let a = c.args in
-    let e : l.i - a.from ≡ a.to - a.from = omega (arith, l.invariant.0, l.invariant.1, c.loop-i-test) in
-    l.invariant.3 ∙ ap (λ (k : ℕ). turned_in (point_of 3 a.n) a.from k a.list.now) e
+    let e : l.i - a.from ≡ a.to - a.from = omega (arith, l.invariant.0) in
+    l.invariant.2 ∙ ap (λ (k : ℕ). turned_in (point_of 3 a.n) a.from k a.list.now) e

@@ -6,7 +6,4 @@ use Rattle.moves.specs.Moves.{turned_in}
 use Rattle.moves.proofs.points.Given as goal
 
 abbrev pub invariant-loop-i : goal.invariant-loop-i
-invariant-loop-i l = (l.from ≤ l.i) × (l.i - l.from ≤ l.to - l.from) × (length l.list ≡ length l.initial.list) × (l.list ≡ turned_in (point_of 3 l.n) l.from (l.i - l.from) l.initial.list)
-
-abbrev pub decreases-loop-i : goal.decreases-loop-i
-decreases-loop-i l = l.to - l.i
+invariant-loop-i l = (l.from ≤ l.i) × (length l.list ≡ length l.initial.list) × (l.list ≡ turned_in (point_of 3 l.n) l.from (l.i - l.from) l.initial.list)

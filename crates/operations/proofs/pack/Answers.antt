@@ -2,10 +2,12 @@
 use mathlib.Core.Path.{sym, ap, ◌∙◌}
 use Rattle.refusals.specs.Refusal.{code_of}
 use Rattle.given.specs.declared.Degree.{Degree}
+use Rattle.tables.specs.Words.{packed}
 use Rattle.operations.specs.Operations.{packing, packed_into}
 use Rattle.operations.proofs.pack.Goals as goal
 
 pub returns-in-Two : goal.returns-in-Two
+unfolding packed
 returns-in-Two c =
     let a = c.args in
     let z = c.in-Two.is in

@@ -1,9 +1,8 @@
 -- `positions::position` meets its contract: a later position of p is one of p less 3 to the first.
-use Rattle.std.proofs.Common.{ℕ, ap, sym, ◌∙◌, ◌<◌, ◌-◌, arith}
+use Rattle.std.proofs.Common.{ℕ, ap, sym, ◌∙◌, ◌<◌, ◌-◌, arith, Some}
 use native.Mathlib.Nat.{one-le-pow}
 use Rattle.positions.specs.Positions.{lowest_of, positions}
 use Rattle.positions.specs.Parts.{position_at}
-use Rattle.positions.specs.declared.PositionAnswer.TheVariants.{At}
 use Rattle.positions.proofs.LowestLaw.{of_le}
 use Rattle.positions.proofs.PartLaw.{moved, at_none, at_first, at_later}
 use Rattle.positions.proofs.+position.Goals as goal
@@ -14,7 +13,7 @@ returns-then-p-eq0 t c = sym (ap (λ (p : ℕ). position_at (positions 3 p) c.ar
 pub returns-then-k-eq0 : goal.returns-then-k-eq0
 returns-then-k-eq0 t c =
     let h : 0 < c.args.p = omega arith in
-    ap At c.first_position-first.ensures ∙ sym (ap (position_at (positions 3 c.args.p)) c.if-k-eq0.true ∙ at_first c.args.p h)
+    ap Some c.first_position-first.ensures ∙ sym (ap (position_at (positions 3 c.args.p)) c.if-k-eq0.true ∙ at_first c.args.p h)
 
 pub overflow_sub-p : goal.overflow_sub-p
 overflow_sub-p t c =

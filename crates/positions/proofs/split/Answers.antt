@@ -17,9 +17,6 @@ returns-then-p-eq0 c =
     let z : c.args.p ≡ 0 = omega arith in
     record { position = sym (lowest_none 3) ∙ ap (lowest_of 3) (sym z); whole = sym (one-mul _); above = λ h. h }
 
-pub loop-rest-init : goal.loop-rest-init
-loop-rest-init c = (omega arith, omega arith, omega arith, sym (one-mul c.args.p))
-
 pub overflow_add-position : goal.overflow_add-position
 overflow_add-position c =
     let p = c.args.p in

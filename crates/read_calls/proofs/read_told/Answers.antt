@@ -1,7 +1,7 @@
 -- `read_calls::read_told` meets its contract: refused before the reader is asked, or as the reader answers.
 use mathlib.Core.Path.{sym, ap, ◌∙◌}
 use native.Mathlib.Omega.{arith}
-use lib.ListN.{length, length-set}
+use lib.ListN.{length}
 use Rattle.refusals.specs.declared.Refusal.TheVariants as why
 use Rattle.graphs.specs.Reading.{Outcome, outcome_of}
 use Rattle.graphs.proofs.SoundLaw.{text_line}
@@ -25,37 +25,35 @@ returns-then-told-ne-TOLD_WORDS c =
     let d = length a.told.now in
     told_refused (call_of t w d) why.Length 0 c.numbered-then-told-ne-TOLD_WORDS.result a.words.now a.told.now (call_told t w d c.if-text-gt-TEXT_MOST.false (omega arith)) c.numbered-then-told-ne-TOLD_WORDS.ensures
 
-pub numbered-requires-in-Refused : goal.numbered-requires-in-Refused
-numbered-requires-in-Refused c =
+pub numbered-requires-in-Err : goal.numbered-requires-in-Err
+numbered-requires-in-Err c =
     let a = c.args in
     let t = a.text.now in
     let w = length a.words.now in
-    let d = length a.told.now in
-    text_line t w _ _ c.if-text-gt-TEXT_MOST.false (refused_is (outcome_of t w) _ _ (sym c.read-answer.ensures.0 ∙ c.in-Refused.is))
+    text_line t w c.in-Err.f.why c.in-Err.f.line c.if-text-gt-TEXT_MOST.false (refused_is (outcome_of t w) c.in-Err.f.why c.in-Err.f.line (sym c.read.ensures.0 ∙ c.in-Err.is))
 
-pub bounds-told-1 : goal.bounds-told-1
-bounds-told-1 c = simp length-set (omega arith)
-
-pub returns-in-Refused : goal.returns-in-Refused
-returns-in-Refused c =
+pub returns-in-Err : goal.returns-in-Err
+returns-in-Err c =
     let a = c.args in
     let t = a.text.now in
     let w = length a.words.now in
     let d = length a.told.now in
     let s = call_reads t w d c.if-text-gt-TEXT_MOST.false (omega arith) in
-    let r = c.read-answer.ensures in
-    let g = refused_is (outcome_of t w) _ _ (sym r.0 ∙ c.in-Refused.is) in
-    let q = told_refused (call_of t w d) _ _ c.numbered-in-Refused.result a.words.now a.told.now (s ∙ g) c.numbered-in-Refused.ensures in
+    let r = c.read.ensures in
+    let f = c.in-Err.f in
+    let g = refused_is (outcome_of t w) f.why f.line (sym r.0 ∙ c.in-Err.is) in
+    let q = told_refused (call_of t w d) f.why f.line c.numbered-in-Err.result a.words.now a.told.now (s ∙ g) c.numbered-in-Err.ensures in
     (q.0, r.1 ∙ ap (λ (o : Outcome). words_after o a.words.now) (sym s), q.2)
 
-pub returns-in-Graph : goal.returns-in-Graph
-returns-in-Graph c =
+pub returns-in-Ok : goal.returns-in-Ok
+returns-in-Ok c =
     let a = c.args in
     let t = a.text.now in
     let w = length a.words.now in
     let d = length a.told.now in
     let s = call_reads t w d c.if-text-gt-TEXT_MOST.false (omega arith) in
-    let r = c.read-answer.ensures in
-    let g = graph_is (outcome_of t w) _ _ (sym r.0 ∙ c.in-Graph.is) in
-    let q = told_graph (call_of t w d) _ _ g.0 a.told.now (s ∙ g.1) g.2 (omega arith) in
-    (q.0, r.1 ∙ ap (λ (o : Outcome). words_after o a.words.now) (sym s), q.1)
+    let r = c.read.ensures in
+    let x = c.in-Ok.s in
+    let g = graph_is (outcome_of t w) x.n x.m (sym r.0 ∙ c.in-Ok.is) in
+    let q = told_graph (call_of t w d) x.n x.m g.0 a.told.now (s ∙ g.1) g.2 in
+    (q.0, r.1 ∙ ap (λ (o : Outcome). words_after o a.words.now) (sym s), c.copy_from_slice.ensures.after ∙ q.1)

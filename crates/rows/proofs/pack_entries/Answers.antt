@@ -1,7 +1,7 @@
 -- `rows::pack_entries` meets its contract: one law for each refusal, in the order of the tests.
 use mathlib.Core.Path.{sym, ap, ◌∙◌}
 use native.Mathlib.Omega.{arith}
-use Rattle.refusals.specs.declared.Verdict.{Verdict}
+use Rattle.refusals.specs.Refusal.{Verdict}
 use Rattle.refusals.specs.Refusal.{after}
 use Rattle.tables.specs.Words.{packed_rows}
 use Rattle.rows.proofs.AnswerLaw.{pack_rows, pack_table, pack_done}

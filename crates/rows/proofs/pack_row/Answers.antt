@@ -11,36 +11,30 @@ use Rattle.rows.proofs.PackLaw.{row_begun, row_step}
 use Rattle.rows.proofs.pack_row.Goals as goal
 
 pub loop-k-init : goal.loop-k-init
-loop-k-init c = let a = c.args in (omega arith, row_begun a.row.now a.e a.table.now)
-
-pub overflow_cast-t : goal.overflow_cast-t
-overflow_cast-t c = record { fits = omega (arith, c.remainder-t.ensures.remainder.small) }
+loop-k-init c = let a = c.args in row_begun a.row.now a.e a.table.now
 
 pub vector-requires : goal.vector-requires
-vector-requires c = let l = c.loop-k in omega (arith, c.requires, l.invariant.1.size, c.loop-k-test.true)
+vector-requires c = let l = c.loop-k in omega (arith, c.requires, l.invariant.size)
 
 pub put_entry-requires : goal.put_entry-requires
-put_entry-requires c = let l = c.loop-k in omega (arith, c.requires, l.invariant.1.size, c.loop-k-test.true)
+put_entry-requires c = let l = c.loop-k in omega (arith, c.requires, l.invariant.size)
 
 pub loop-k-preserved : goal.loop-k-preserved
 loop-k-preserved c =
     let l = c.loop-k in
     let a = c.args in
     let q = c.requires in
-    let h = c.loop-k-test.true in
     let p = c.put_entry in
-    let r : c.remainder-t.result ≡ floor_mod 3 (get_or a.row.now l.k (pos 0)) = c.remainder-t.ensures.computed ∙ ap (floor_mod 3) (to_z-of_z w8 (get_or a.row.now l.k (pos 0)) (record { sfits = c.remainder-arg-1.given })) in
-    let w : Put c.vector.result a.e (floor_mod 3 (get_or a.row.now l.k (pos 0))) c.with_trit-v.result = rw (← r) c.with_trit-v.ensures in (
-      omega arith,
-      rw p.ensures (row_step a.row.now a.e l.k a.table.now l.table c.vector.result c.with_trit-v.result
-          (omega (arith, q, l.invariant.1.size, h)) c.vector.ensures w l.invariant.1),
-    )
+    let r : c.from-t.result ≡ floor_mod 3 (get_or a.row.now l.k (pos 0)) = c.from-t.ensures ∙ c.remainder.ensures.computed ∙ ap (floor_mod 3) (to_z-of_z w8 (get_or a.row.now l.k (pos 0)) (record { sfits = c.remainder-arg-1.given })) in
+    let w : Put c.vector.result a.e (floor_mod 3 (get_or a.row.now l.k (pos 0))) c.with_trit-v.result = rw (← r) c.with_trit-v.ensures in
+    rw p.ensures (row_step a.row.now a.e l.k a.table.now l.table c.vector.result c.with_trit-v.result
+    (omega (arith, q, l.invariant.size)) c.vector.ensures w l.invariant)
 
 pub shape_of-table : goal.shape_of-table
-shape_of-table c = c.loop-k.invariant.1.size
+shape_of-table c = c.loop-k.invariant.size
 
 pub returns : goal.returns
 returns c =
     let l = c.loop-k in
-    let e : l.k ≡ length c.args.row.now = omega (arith, l.invariant.0, c.loop-k-test.false) in
-    rw e at l.invariant.1
+    let e : l.k ≡ length c.args.row.now = omega arith in
+    rw e at l.invariant

@@ -1,7 +1,9 @@
 -- `rows::pack_rows` meets its contract. The invariant: the table holds the first e equations.
 use mathlib.Core.Path.{◌≡◌, sym, ap, ◌∙◌}
-use Prim.Native.Nat.{ℕ, ◌+◌, ◌*◌, ◌≤◌}
+use Prim.Native.Nat.{ℕ, ◌*◌}
 use native.Mathlib.Omega.{arith}
+use lib.ListN.{length}
+use Rattle.std.proofs.Common.{rules}
 use Rattle.tables.specs.Words.{packed_rows}
 use Rattle.rows.proofs.PackLaw.{packed_none, packed_part, part_length, row_within, row_small}
 use Rattle.rows.proofs.pack_rows.Goals as goal
@@ -10,21 +12,20 @@ pub loop-e-init : goal.loop-e-init
 loop-e-init c =
     let a = c.args in
     let q = c.requires in
-    let l = c.clear in
-    (omega arith, l.auto.table ∙ q.3, packed_none a.entries a.rows.now a.table.now l.new.table q.3 l.ensures)
+    (c.fill.ensures.len ∙ q.3, c.fill.ensures.after (λ y h. search rules) ∙ packed_none a.entries a.rows.now (length a.table.now) q.3)
 
 pub overflow_mul-at : goal.overflow_mul-at
 overflow_mul-at c =
     let a = c.args in
     let q = c.requires in
-    let w : c.loop-e.e * a.entries + a.entries ≤ a.m * a.entries = row_within c.loop-e.e a.m a.entries c.loop-e-test.true in
+    let w = row_within c.loop-e.e a.m a.entries (omega arith) in
     omega (arith, row_small a.m a.entries q.1 q.0)
 
-pub overflow_add-end : goal.overflow_add-end
-overflow_add-end c =
+pub overflow_add-at : goal.overflow_add-at
+overflow_add-at c =
     let a = c.args in
     let q = c.requires in
-    let w : c.loop-e.e * a.entries + a.entries ≤ a.m * a.entries = row_within c.loop-e.e a.m a.entries c.loop-e-test.true in
+    let w = row_within c.loop-e.e a.m a.entries (omega arith) in
     omega (arith, row_small a.m a.entries q.1 q.0)
 
 pub slice_bounds-pack_row-count : goal.slice_bounds-pack_row-count
@@ -34,14 +35,14 @@ pub slice_bounds-pack_row-start : goal.slice_bounds-pack_row-start
 slice_bounds-pack_row-start c =
     let a = c.args in
     let q = c.requires in
-    let w : c.loop-e.e * a.entries + a.entries ≤ a.m * a.entries = row_within c.loop-e.e a.m a.entries c.loop-e-test.true in
+    let w = row_within c.loop-e.e a.m a.entries (omega arith) in
     omega (arith, row_small a.m a.entries q.1 q.0)
 
 pub slice_bounds-pack_row-end : goal.slice_bounds-pack_row-end
 slice_bounds-pack_row-end c =
     let a = c.args in
     let q = c.requires in
-    let w : c.loop-e.e * a.entries + a.entries ≤ a.m * a.entries = row_within c.loop-e.e a.m a.entries c.loop-e-test.true in
+    let w = row_within c.loop-e.e a.m a.entries (omega arith) in
     omega (arith, q.2)
 
 pub pack_row-requires : goal.pack_row-requires
@@ -49,7 +50,7 @@ pack_row-requires c =
     let a = c.args in
     let q = c.requires in
     let l = c.loop-e in
-    l.invariant.1 ∙ ap (λ (x : ℕ). 2 * x) (sym (part_length a.rows.now l.e a.m a.entries c.loop-e-test.true q.2))
+    l.invariant.0 ∙ ap (λ (x : ℕ). 2 * x) (sym (part_length a.rows.now l.e a.m a.entries (omega arith) q.2))
 
 pub loop-e-preserved : goal.loop-e-preserved
 loop-e-preserved c =
@@ -57,14 +58,14 @@ loop-e-preserved c =
     let q = c.requires in
     let l = c.loop-e in
     let p = c.pack_row in
-    (omega arith, p.auto.table ∙ l.invariant.1, packed_part a.entries a.rows.now l.e a.m l.table p.new.table c.loop-e-test.true q.1 q.2 l.invariant.2 p.ensures)
+    (p.auto.table ∙ l.invariant.0, packed_part a.entries a.rows.now l.e a.m l.table p.new.table (omega arith) q.1 q.2 l.invariant.1 p.ensures)
 
 pub shape_of-table : goal.shape_of-table
-shape_of-table c = c.loop-e.invariant.1 ∙ sym c.requires.3
+shape_of-table c = c.loop-e.invariant.0 ∙ sym c.requires.3
 
 pub returns : goal.returns
 returns c =
     let a = c.args in
     let l = c.loop-e in
-    let e : l.e ≡ a.m = omega (arith, l.invariant.0, c.loop-e-test.false) in
-    l.invariant.2 ∙ ap (λ (x : ℕ). packed_rows a.entries x a.rows.now) e
+    let e : l.e ≡ a.m = omega arith in
+    l.invariant.1 ∙ ap (λ (x : ℕ). packed_rows a.entries x a.rows.now) e

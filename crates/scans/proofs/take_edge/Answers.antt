@@ -1,35 +1,33 @@
 -- `scans::take_edge` meets its contract.
-use mathlib.Core.Path.{sym, ◌∙◌}
-use borrow.Author.Tests.{not-true, not-false}
-use Rattle.graphs.specs.Scans.{edges_of}
-use Rattle.graphs.proofs.ReadLaw.{early_edge, later_edge, edge_fine}
+use mathlib.Core.Path.{◌≡◌, sym, ap, refl, ◌∙◌}
+use Rattle.std.proofs.Common.{Err, Some, None, rules}
+use Rattle.refusals.specs.declared.Refusal.TheVariants as why
+use Rattle.shapes.specs.declared.Shape.TheVariants.{Edge}
+use Rattle.graphs.specs.Reading.{take_line}
+use Rattle.graphs.specs.Scans.{edges_of, state_of, taken}
+use Rattle.graphs.proofs.ReadLaw.{edge_early, later_edge}
 use Rattle.scans.proofs.take_edge.Goals as goal
 
-pub returns-then-not-g : goal.returns-then-not-g
-returns-then-not-g c =
+pub returns-in_err-g : goal.returns-in_err-g
+returns-in_err-g c =
     let a = c.args in
-    let g = a.g in
-    (early_edge g.vertices g.edges g.lines (edges_of g) (not-true g.known c.if-not-g.true) a.a a.b, c.requires)
+    let n : a.g ≡ None = search rules in
+    let e : c.from_residual.result ≡ Err why.Order = search rules in
+    (ap taken e ∙ sym (edge_early a.a a.b) ∙ ap (λ x. take_line (state_of x) (Edge a.a a.b)) (sym n), rw e refl)
 
-pub take_pair-requires : goal.take_pair-requires
-take_pair-requires c =
+pub returns-in_err-edge_fault : goal.returns-in_err-edge_fault
+returns-in_err-edge_fault c =
     let a = c.args in
-    let g = a.g in
-    let f = edge_fine g.vertices g.edges g.lines a.a a.b (sym c.edge_fault-f.ensures ∙ c.in-Done.is) in (
-      c.requires,
-      record { known = not-false g.known c.if-not-g.false; room = f.room; one_most = f.one_most; other_most = f.other_most },
-    )
+    let g = c.in_ok-g.g in
+    let n : a.g ≡ Some g = search rules in
+    let e : c.from_residual-in_err-edge_fault.result ≡ Err c.in_err-edge_fault.field-0.0 = search rules in
+    let w = sym c.edge_fault.ensures ∙ c.in_err-edge_fault.was in
+    (ap taken e ∙ later_edge g.vertices g.edges g.lines (edges_of g) a.a a.b w ∙ ap (λ x. take_line (state_of x) (Edge a.a a.b)) (sym n), rw e refl)
 
-pub returns-in-Refused : goal.returns-in-Refused
-returns-in-Refused c =
+pub returns : goal.returns
+returns c =
     let a = c.args in
-    let g = a.g in
-    let w = sym c.edge_fault-f.ensures ∙ c.in-Refused.is in
-    (later_edge g.vertices g.edges g.lines (edges_of g) (not-false g.known c.if-not-g.false) a.a a.b w, c.requires)
-
-pub returns-in-Done : goal.returns-in-Done
-returns-in-Done c =
-    let a = c.args in
-    let g = a.g in
-    let w = sym c.edge_fault-f.ensures ∙ c.in-Done.is in
-    (c.take_pair.ensures.0 ∙ later_edge g.vertices g.edges g.lines (edges_of g) (not-false g.known c.if-not-g.false) a.a a.b w, c.take_pair.ensures.1)
+    let g = c.in_ok-g.g in
+    let n : a.g ≡ Some g = search rules in
+    let w = sym c.edge_fault.ensures ∙ c.in_ok-edge_fault.was in
+    (c.take_pair.ensures.0 ∙ later_edge g.vertices g.edges g.lines (edges_of g) a.a a.b w ∙ ap (λ x. take_line (state_of x) (Edge a.a a.b)) (sym n), c.take_pair.ensures.1)

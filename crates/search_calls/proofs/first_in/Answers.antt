@@ -10,4 +10,4 @@ pub returns : goal.returns
 returns c =
     let f = c.read_first-f.result in
     ap (λ (n : ℕ). record { n = n; m = f.m; place = f.place; value = f.value; slots = f.slots }) c.n_for-n.ensures
-    ∙ ap₂ (λ (x : First) (z : Bool). record { n = n_for c.args.degree x.n z; m = x.m; place = x.place; value = x.value; slots = x.slots }) c.read_first-f.ensures c.no_seconds-zero.ensures
+    ∙ ap₂ (λ (x : First) (z : Bool). record { n = n_for c.args.degree x.n z; m = x.m; place = x.place; value = x.value; slots = x.slots }) c.read_first-f.ensures c.no_seconds.ensures

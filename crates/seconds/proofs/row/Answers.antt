@@ -1,5 +1,5 @@
 -- `seconds::row` meets its contract. The loop's invariant: the second slots of b and the unknowns below c are filled, and power is 3 to the c.
--- The measure is what is left of the unknowns.
+--
 use mathlib.Core.Path.{◌≡◌, ap, ap₂, ◌∙◌}
 use mathlib.Core.List.{List}
 use Prim.Native.Nat.{ℕ, ◌+◌, ◌-◌, ◌*◌, ◌^◌}
@@ -13,17 +13,6 @@ use Rattle.seconds.proofs.CountedLaw.{pair_low, power_next, power_small}
 use Rattle.seconds.proofs.FilledLaw.{filled_next}
 use Rattle.seconds.proofs.row.Goals as goal
 
--- what is written stands at the pair's seat
-put : (n : ℕ) (t : List ℕ) (q b c k : ℕ) (s : List ℕ) (v : Vector) → k ≡ seat_of b c → Filled n t q b (c + 1) (put_at s (seat_of b c) v)
-    → Filled n t q b (c + 1) (set (set s (2 * k) v.high) (2 * k + 1) v.low)
-unfolding put_at
-put n t q b c k s v e f = rw e f
-
-pub loop-c-init : goal.loop-c-init
-loop-c-init c =
-    let p = c.requires in
-    (omega arith, omega arith, p.4, λ f. f)
-
 pub overflow_sub-base : goal.overflow_sub-base
 overflow_sub-base c = omega (arith, pair_low c.args.n c.loop-c.c)
 
@@ -33,7 +22,7 @@ second-v-requires c =
     let p = c.requires in
     let l = c.loop-c in
     let s = power_small a.n (omega arith) in
-    (p.0, l.invariant.0, omega arith, ap₂ (λ (x y : ℕ). x + (y - l.c)) c.key-kb.ensures.0 c.pair.ensures.0, p.3, omega arith, l.invariant.2)
+    (p.0, l.auto.c, omega arith, ap₂ (λ (x y : ℕ). x + (y - l.c)) c.key-kb.ensures.0 c.pair.ensures.0, p.3, omega arith, l.invariant.0)
 
 pub overflow_mul-power : goal.overflow_mul-power
 overflow_mul-power c =
@@ -46,15 +35,12 @@ loop-c-preserved c =
     let a = c.args in
     let p = c.requires in
     let l = c.loop-c in
-    let left : c.less.result ≡ a.q - (3 ^ a.b + 3 ^ l.c) = omega arith in (
-      omega arith,
-      omega arith,
-      ap (λ (x : ℕ). x * 3) l.invariant.2 ∙ power_next l.c,
-      λ f. put a.n a.table.now a.q a.b l.c c.pair-at.result l.out c.second-v.result c.pair-at.ensures.0
-          (filled_next a.n a.table.now a.q a.b l.c l.out c.second-v.result l.invariant.0 (omega arith) p.0 (λ m w. c.second-v.ensures m a.q w p.2 left) (l.invariant.3 f)),
+    let left : c.saturating_sub.result ≡ a.q - (3 ^ a.b + 3 ^ l.c) = omega arith in (
+      ap (λ (x : ℕ). x * 3) l.invariant.0 ∙ power_next l.c,
+      λ f. rw (c.put_entry.ensures, c.pair-k.ensures.0) (filled_next a.n a.table.now a.q a.b l.c l.out c.second-v.result l.auto.c (omega arith) p.0 (λ m w. c.second-v.ensures m a.q w p.2 left) (l.invariant.1 f)),
     )
 
 pub returns : goal.returns
 returns c =
     let e : c.loop-c.c ≡ c.args.n = omega arith in
-    λ f. rw e at (c.loop-c.invariant.3 f)
+    λ f. rw e at (c.loop-c.invariant.1 f)

@@ -5,7 +5,4 @@ use Rattle.seconds.proofs.row.Given as goal
 
 abbrev pub invariant-loop-c : goal.invariant-loop-c
 invariant-loop-c l =
-    (l.b ≤ l.c) × (l.c ≤ l.n) × (l.power ≡ 3 ^ l.c) × (Filled l.n l.table l.q l.b l.b l.initial.out → Filled l.n l.table l.q l.b l.c l.out)
-
-abbrev pub decreases-loop-c : goal.decreases-loop-c
-decreases-loop-c l = l.n - l.c
+    (l.power ≡ 3 ^ l.c) × (Filled l.n l.table l.q l.b l.b l.initial.out → Filled l.n l.table l.q l.b l.c l.out)

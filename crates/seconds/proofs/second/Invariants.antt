@@ -7,8 +7,5 @@ use Rattle.seconds.proofs.second.Given as goal
 
 abbrev pub invariant-loop-d : goal.invariant-loop-d
 invariant-loop-d l =
-    (l.c + 1 ≤ l.d) × (l.d ≤ l.n) × (l.y ≡ l.rest / 3 ^ l.d)
+    (l.y ≡ l.rest / 3 ^ l.d)
     × ((m q : ℕ) → CubicTable l.n m l.table → l.rest ≡ q - (3 ^ l.b + 3 ^ l.c) → Holds m (λ e. counted_to (cubic_at l.n l.table e) l.b l.c q l.d) l.v)
-
-abbrev pub decreases-loop-d : goal.decreases-loop-d
-decreases-loop-d l = l.n - l.d

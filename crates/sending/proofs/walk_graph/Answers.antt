@@ -1,11 +1,10 @@
 -- `sending::walk_graph` keeps its contract.
 use native.Mathlib.Omega.{arith}
-use borrow.Author.Tests.{not-false}
 use Rattle.sending.proofs.EndLaw.{none_walked, walked}
 use Rattle.sending.proofs.walk_graph.Goals as goal
 
-pub returns-then-not-d : goal.returns-then-not-d
-returns-then-not-d c = none_walked c.args.table.now c.args.s c.args.first c.drive-d.new.text c.drive-d.result.sent
+pub returns-in_default : goal.returns-in_default
+returns-in_default c = none_walked c.args.table.now c.args.s c.args.first c.drive-d.new.text c.drive-d.result.sent
 
 pub put_head-head-requires : goal.put_head-head-requires
 put_head-head-requires c =
@@ -23,5 +22,5 @@ returns c =
     let d = c.drive-d in
     let h = c.put_head-head in
     let p = c.put_totals-told in
-    walked c.args.table.now c.args.s c.args.first d.result d.new.text h.new.text p.new.text h.result p.result c.concluded.result d.ensures (not-false _ c.if-not-d.false)
+    walked c.args.table.now c.args.s c.args.first d.result c.in-Some.totals d.new.text h.new.text p.new.text h.result p.result c.concluded.result d.ensures c.in-Some.is
     h.ensures.0 p.ensures.0 (omega (arith, h.ensures.1, p.ensures.1, d.auto.text, c.requires.1, c.requires.2)) c.concluded.ensures

@@ -7,11 +7,6 @@ use Rattle.trits.specs.Trit.{trit}
 use Rattle.trits.proofs.LegalLaw.{bit_mask, trit_out}
 use Rattle.single_trits.proofs.trit_at.Goals as goal
 
-pub overflow_add-result : goal.overflow_add-result
-overflow_add-result c =
-    let a = c.args in
-    omega (arith, and_le_r (a.v.high / 2 ^ a.e) 1, and_le_r (a.v.low / 2 ^ a.e) 1)
-
 pub returns-then-e-lt64 : goal.returns-then-e-lt64
 unfolding trit
 returns-then-e-lt64 c =

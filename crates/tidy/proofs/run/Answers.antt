@@ -16,51 +16,51 @@ slice_bounds-deliver-end c =
     let t = a.input.now in
     let y = c.tidy-answer in
     let s = never_short t (length a.out.now) (omega (arith, c.requires.0)) in
-    let e = sym c.in-Tidied.is ∙ y.ensures.0 ∙ ap (answer_of t) s in
-    let w = wrote t (outcome_of t words_least) _ _ _ _ a.out.now y.new.out e (y.ensures.1 ∙ ap (λ (o : Outcome). out_after o a.out.now) s) in
+    let e = sym c.in-Ok.is ∙ y.ensures.0 ∙ ap (answer_of t) s in
+    let w = wrote t (outcome_of t words_least) c.in-Ok.t.bytes c.in-Ok.t.comments c.in-Ok.t.repeated c.in-Ok.t.turned a.out.now y.new.out e (y.ensures.1 ∙ ap (λ (o : Outcome). out_after o a.out.now) s) in
     w.fits
 
-pub slice_bounds-deliver-end-in-Tidied : goal.slice_bounds-deliver-end-in-Tidied
-slice_bounds-deliver-end-in-Tidied c =
+pub slice_bounds-deliver-end-in-Ok : goal.slice_bounds-deliver-end-in-Ok
+slice_bounds-deliver-end-in-Ok c =
     let a = c.args in
     let t = a.input.now in
     let y = c.tidy-answer in
     let s = never_short t (length a.out.now) (omega (arith, c.requires.0)) in
-    let e = sym c.in-Tidied.is ∙ y.ensures.0 ∙ ap (answer_of t) s in
-    let w = wrote t (outcome_of t words_least) _ _ _ _ a.out.now y.new.out e (y.ensures.1 ∙ ap (λ (o : Outcome). out_after o a.out.now) s) in
+    let e = sym c.in-Ok.is ∙ y.ensures.0 ∙ ap (answer_of t) s in
+    let w = wrote t (outcome_of t words_least) c.in-Ok.t.bytes c.in-Ok.t.comments c.in-Ok.t.repeated c.in-Ok.t.turned a.out.now y.new.out e (y.ensures.1 ∙ ap (λ (o : Outcome). out_after o a.out.now) s) in
     sym (length-take-le _ y.new.out w.fits)
 
-pub slice_bounds-deliver-end-in-Refused-2 : goal.slice_bounds-deliver-end-in-Refused-2
-slice_bounds-deliver-end-in-Refused-2 c =
+pub slice_bounds-deliver-end-in-Err-2 : goal.slice_bounds-deliver-end-in-Err-2
+slice_bounds-deliver-end-in-Err-2 c =
     let p = c.put_refusal-told in
     sym (length-take-le p.result p.new.text (omega (arith, p.ensures.0.size, p.ensures.1, c.requires.1)))
 
-pub returns-in-Tidied : goal.returns-in-Tidied
-returns-in-Tidied c =
+pub returns-in-Ok : goal.returns-in-Ok
+returns-in-Ok c =
     let a = c.args in
     let t = a.input.now in
     let y = c.tidy-answer in
     let s = never_short t (length a.out.now) (omega (arith, c.requires.0)) in
-    let e = sym c.in-Tidied.is ∙ y.ensures.0 ∙ ap (answer_of t) s in
-    let w = wrote t (outcome_of t words_least) _ _ _ _ a.out.now y.new.out e (y.ensures.1 ∙ ap (λ (o : Outcome). out_after o a.out.now) s) in
+    let e = sym c.in-Ok.is ∙ y.ensures.0 ∙ ap (answer_of t) s in
+    let w = wrote t (outcome_of t words_least) c.in-Ok.t.bytes c.in-Ok.t.comments c.in-Ok.t.repeated c.in-Ok.t.turned a.out.now y.new.out e (y.ensures.1 ∙ ap (λ (o : Outcome). out_after o a.out.now) s) in
     let p = c.put-told in
     record {
       answer = e;
       ends = run_ends t _ p.result _ a.text.now p.new.text c.deliver-ending.result w.front w.told p.ensures (omega (arith, p.ensures.next, c.requires.1)) c.deliver-ending.ensures;
     }
 
-pub returns-in-Refused : goal.returns-in-Refused
-returns-in-Refused c =
+pub returns-in-Err : goal.returns-in-Err
+returns-in-Err c =
     let a = c.args in
     let t = a.input.now in
     let y = c.tidy-answer in
     let s = never_short t (length a.out.now) (omega (arith, c.requires.0)) in
-    let e = sym c.in-Refused.is ∙ y.ensures.0 ∙ ap (answer_of t) s in
+    let e = sym c.in-Err.is ∙ y.ensures.0 ∙ ap (answer_of t) s in
     let p = c.put_refusal-told in
     let n = c.number-number in
-    let q = refused_line t (outcome_of t words_least) _ _ e in
-    let same = ap (λ (k : ℕ). refusal_line k c.in-Refused.line) n.ensures.0 in
+    let q = refused_line t (outcome_of t words_least) c.in-Err.f.why c.in-Err.f.line e in
+    let same = ap (λ (k : ℕ). refusal_line k c.in-Err.f.line) n.ensures.0 in
     record {
       answer = e;
-      ends = run_ends t _ p.result _ a.text.now p.new.text c.deliver-ending-in-Refused.result (p.ensures.0.front ∙ same ∙ q.0) (same ∙ q.1) p.ensures.0 (omega (arith, p.ensures.1, c.requires.1)) c.deliver-ending-in-Refused.ensures;
+      ends = run_ends t _ p.result _ a.text.now p.new.text c.deliver-ending-in-Err.result (p.ensures.0.front ∙ same ∙ q.0) (same ∙ q.1) p.ensures.0 (omega (arith, p.ensures.1, c.requires.1)) c.deliver-ending-in-Err.ensures;
     }

@@ -10,7 +10,7 @@ use Rattle.tidying.proofs.TidyLaw.{cells_turn, text_none}
 use Rattle.tidying.proofs.put_cells.Goals as goal
 
 pub loop-c-init : goal.loop-c-init
-loop-c-init c = (omega arith, omega arith, omega arith, refl, refl, refl)
+loop-c-init c = (omega arith, omega arith, refl, refl, refl)
 
 pub loop-c-preserved : goal.loop-c-preserved
 loop-c-preserved c =
@@ -19,12 +19,11 @@ loop-c-preserved c =
     let h = c.loop-c-test.true in
     let r = c.put_cell-next in
     let p = r.ensures.0 in (
-      omega arith,
-      omega (arith, p.next, l.invariant.1),
-      omega (arith, r.ensures.1, l.invariant.2),
-      p.size ∙ l.invariant.3,
-      cells_turn (flagged a.seen.now) l.page l.next r.new.page r.result l.c h p ∙ l.invariant.4,
-      p.rest ∙ drop_past l.next r.result l.page a.page.now (omega (arith, p.next)) l.invariant.5,
+      omega (arith, p.next, l.invariant.0),
+      omega (arith, r.ensures.1, l.invariant.1),
+      p.size ∙ l.invariant.2,
+      cells_turn (flagged a.seen.now) l.page l.next r.new.page r.result l.c h p ∙ l.invariant.3,
+      p.rest ∙ drop_past l.next r.result l.page a.page.now (omega (arith, p.next)) l.invariant.4,
     )
 
 pub returns : goal.returns
@@ -35,8 +34,8 @@ returns c =
     let e : cells - l.c ≡ 0 = omega arith in
     let m : l.next ≤ length l.page = omega arith in
     let z : a.at ≤ length a.page.now = omega arith in (
-      put_is a.page.now a.at (edges_text (tidy_of f)) l.page l.next l.invariant.3 z m
-          (none_left (take l.next l.page) (edges_text (tidy_from f l.c (cells - l.c))) (text_none f l.c (cells - l.c) e) ∙ l.invariant.4)
-          l.invariant.5,
+      put_is a.page.now a.at (edges_text (tidy_of f)) l.page l.next l.invariant.2 z m
+          (none_left (take l.next l.page) (edges_text (tidy_from f l.c (cells - l.c))) (text_none f l.c (cells - l.c) e) ∙ l.invariant.3)
+          l.invariant.4,
       omega arith,
     )

@@ -1,5 +1,4 @@
 -- `turns::turn` meets its contract: its vectors are those of document 01's formulas.
-use mathlib.Core.Path.{◌∙◌}
 use native.Mathlib.Omega.{arith}
 use Rattle.tables.proofs.IndexLaw.{count_is}
 use Rattle.turns.proofs.TurnLaw.{turn_next}
@@ -10,20 +9,6 @@ vector-requires c = let q = c.requires in omega (arith, q, count_is c.args.n)
 
 pub put_entry-requires : goal.put_entry-requires
 put_entry-requires c = let q = c.requires in omega (arith, q, count_is c.args.n)
-
-pub put_entry-requires-2 : goal.put_entry-requires-2
-put_entry-requires-2 c =
-    let q = c.requires in
-    let k = c.index-first.ensures.1 in
-    let l = c.put_entry.auto.table in
-    omega (arith, q, k, l)
-
-pub turn_products-requires : goal.turn_products-requires
-turn_products-requires c =
-    let q = c.requires in
-    let l = c.put_entry.auto.table in
-    let r = c.put_entry-2.auto.table in
-    (q.0, q.1, q.2, r ∙ l ∙ q.3)
 
 pub returns : goal.returns
 returns c =

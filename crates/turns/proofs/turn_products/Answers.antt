@@ -1,32 +1,19 @@
 -- `turns::turn_products` meets its contract. The invariant: the products before j are written.
-use mathlib.Core.Path.{refl, ap, ◌∙◌}
 use native.Mathlib.Omega.{arith}
-use lib.ListN.{length}
-use Rattle.turns.proofs.TurnLaw.{products_none, products_next, products_all}
-use Rattle.tables.proofs.WriteLaw.{length_put}
+use Rattle.turns.proofs.TurnLaw.{products_next, products_all}
 use Rattle.turns.proofs.turn_products.Goals as goal
-
-pub loop-j-init : goal.loop-j-init
-loop-j-init c =
-    let a = c.args in
-    (omega arith, omega (arith, c.requires), refl, λ m f g t s p. products_none a.n a.i g a.to.now)
 
 pub loop-j-preserved : goal.loop-j-preserved
 loop-j-preserved c =
     let l = c.loop-j in
     let a = c.args in
     let q = c.requires in
-    let i = l.invariant in
-    let e = c.put_entry.ensures in (
-      omega arith,
-      omega arith,
-      ap length e ∙ length_put _ _ _ ∙ i.2,
-      λ m f g t s p. rw e (products_next a.n m a.i l.j a.from.now f g a.to.now l.to a.step i.0 (omega arith) q.3 t s p
-          c.index-k.result c.index-k.ensures.0 c.vector.result c.vector.ensures c.add-v.result c.add-v.ensures (i.3 m f g t s p)),
-    )
+    let e = c.put_entry.ensures in
+    λ m f g t s p. rw e (products_next a.n m a.i l.j a.from.now f g a.to.now l.to a.step (omega arith) (omega arith) q.3 t s p
+    c.index-k.result c.index-k.ensures.0 c.vector.result c.vector.ensures c.add.result c.add.ensures (l.invariant m f g t s p))
 
 pub returns : goal.returns
 returns c =
     let l = c.loop-j in
     let a = c.args in
-    λ m f g t s p. products_all a.n a.i l.j g a.to.now l.to (omega (arith, l.invariant, c.loop-j-test.false)) (l.invariant.3 m f g t s p)
+    λ m f g t s p. products_all a.n a.i l.j g a.to.now l.to (omega (arith, l.auto.j-end)) (l.invariant m f g t s p)

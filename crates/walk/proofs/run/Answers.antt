@@ -10,12 +10,12 @@ use Rattle.walk.proofs.run.Goals as goal
 pub returns : goal.returns
 returns c =
     let a = c.args in
-    let f = c.lead-first.ensures in
+    let f = c.lead.ensures in
     let x = c.steps-a in
     let y = c.leaps-b in
     let u = c.steps in
     let h = min-le_left a.budget (27 - a.w.place % 27) in record {
-      state = joined a.n (product a.table.now a.n) a.end a.budget c.lead-first.result (fresh a.w a.list.now) (state_of x.result _) (state_of y.result _) _
+      state = joined a.n (product a.table.now a.n) a.end a.budget c.lead.result (fresh a.w a.list.now) (state_of x.result _) (state_of y.result _) _
           (omega arith) x.ensures.less.0 y.ensures.less.0 x.ensures.state y.ensures.state u.ensures.state;
       range = (omega (arith, x.ensures.less.0, y.ensures.less.0, u.ensures.less.0), u.ensures.sane.place);
     }

@@ -12,17 +12,11 @@ use Rattle.outcomes.proofs.FitsLaw.{fits_place}
 use Rattle.walking.proofs.ThreeLaw.{three_leaves}
 use Rattle.walking.proofs.walked_three.Goals as goal
 
-pub run-t-requires : goal.run-t-requires
-run-t-requires c =
-    let a = c.args in
-    let w = within (cubic a.n a.m a.table.now) c.requires.0 in
-    record { sized = record { some = w.least; small = w.most; table = (cubic_table_of a.n a.m a.table.now c.requires.0).size; end = omega (arith, c.requires.2) }; place_le_end = omega (arith, c.requires.2, fits_place (cubic a.n a.m a.table.now) (whole_of Three a.s a.seconds.now) c.requires.1) }
-
 pub returns : goal.returns
 returns c =
     let a = c.args in
     let x = c.run-t in
     three_leaves a.n a.m a.table.now c.requires.0 (whole_of Three a.s a.seconds.now) c.requires.1 a.budget a.end a.list.now _ x.result c.requires.2
     x.type_inv.1.1.0.1.1.1.1.0.1.0.1
-    (x.ensures.state ∙ ap (λ (y : List ℕ). search_of a.table.now a.n a.end a.budget (fresh (record { place = a.s.place.0; value = a.s.value; slots = a.s.slots; seconds = y }) a.list.now)) c.copy.ensures)
-    _ c.copy-2.ensures
+    (x.ensures.state ∙ ap (λ (y : List ℕ). search_of a.table.now a.n a.end a.budget (fresh (record { place = a.s.place.0; value = a.s.value; slots = a.s.slots; seconds = y }) a.list.now)) c.copy_from_slice.ensures.after)
+    _ c.copy_from_slice-2.ensures.after

@@ -9,15 +9,6 @@ use Rattle.outcomes.proofs.FitsLaw.{fits_place}
 use Rattle.walking.proofs.TwoLaw.{two_leaves}
 use Rattle.walking.proofs.walked_two.Goals as goal
 
-pub run-t-requires : goal.run-t-requires
-run-t-requires c =
-    let a = c.args in
-    let n = a.n in
-    let m = a.m in
-    let t = a.table.now in
-    let w = within (quadratic n m t) c.requires.0 in
-    record { sized = record { some = w.least; small = w.most; table = (table_of_lem n m t c.requires.0).size; end = omega (arith, c.requires.2) }; place_le_end = omega (arith, c.requires.2, fits_place (quadratic n m t) (whole_of Two a.f []) c.requires.1) }
-
 pub returns : goal.returns
 returns c =
     let a = c.args in

@@ -1,13 +1,11 @@
 -- `wire::read_record` meets its contract: its two parts, put together.
 use mathlib.Core.Path.{ap₂, ◌∙◌}
-use mathlib.Core.List.{List}
-use Prim.Native.Nat.{ℕ}
 use native.Mathlib.Omega.{arith}
 use lib.ListN.{length-drop}
 use lib.Seq.{take_all}
 use Rattle.codec.specs.Codec.{words_of}
 use Rattle.codec.proofs.CodecLaw.{length_words}
-use Rattle.opening.specs.declared.First.{First}
+use Rattle.opening.specs.First.{with_seconds}
 use Rattle.wire.specs.Wire.{record_in}
 use Rattle.wire.proofs.read_record.Goals as goal
 
@@ -15,5 +13,6 @@ pub returns : goal.returns
 returns c =
     let b = c.args.b.now in
     let w = words_of 465 b in
-    ap₂ (λ (f : First) (s : List ℕ). record { n = f.n; m = f.m; place = f.place; value = f.value; slots = f.slots; seconds = s }) c.read_first-f.ensures (
+    c.with.ensures
+    ∙ ap₂ with_seconds c.read_first-f.ensures (
     c.read_seconds.ensures ∙ take_all 420 (record_in b).seconds (omega (arith, length-drop 45 w, length_words 465 b)))

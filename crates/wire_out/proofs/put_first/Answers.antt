@@ -28,7 +28,6 @@ pub loop-i-init : goal.loop-i-init
 loop-i-init c =
     let r = c.args.r in
     let w = c.args.w.now in (
-      omega arith,
       length_five w r.n r.m r.place.0 r.value.high r.value.low ∙ c.requires,
       five w r.n r.m r.place.0 r.value.high r.value.low c.requires ∙ ap (λ (m : List ℕ). front r ++ m) (sym words_nil),
     )
@@ -36,7 +35,7 @@ loop-i-init c =
 pub bounds-w-i-in-loop-i : goal.bounds-w-i-in-loop-i
 bounds-w-i-in-loop-i c =
     let l = c.loop-i in
-    omega (arith, l.invariant.1, length-set l.w (5 + 2 * l.i) (get_or c.args.r.slots l.i (record { high = 0; low = 0 })).high)
+    omega (arith, l.invariant.0, length-set l.w (5 + 2 * l.i) (get_or c.args.r.slots l.i (record { high = 0; low = 0 })).high)
 
 pub loop-i-preserved : goal.loop-i-preserved
 loop-i-preserved c =
@@ -44,9 +43,8 @@ loop-i-preserved c =
     let r = c.args.r in
     let v = get_or r.slots l.i (record { high = 0; low = 0 }) in
     let g = slots_long r _ c.well_formed.0 in (
-      omega arith,
-      length-set (set l.w (5 + 2 * l.i) v.high) (6 + 2 * l.i) v.low ∙ length-set l.w (5 + 2 * l.i) v.high ∙ l.invariant.1,
-      write_turn (front r) l.w r.slots l.i (record { high = 0; low = 0 }) l.invariant.1 g (omega arith) l.invariant.2,
+      length-set (set l.w (5 + 2 * l.i) v.high) (6 + 2 * l.i) v.low ∙ length-set l.w (5 + 2 * l.i) v.high ∙ l.invariant.0,
+      write_turn (front r) l.w r.slots l.i (record { high = 0; low = 0 }) l.invariant.0 g (omega arith) l.invariant.1,
     )
 
 pub returns : goal.returns
@@ -54,4 +52,4 @@ returns c =
     let l = c.loop-i in
     let r = c.args.r in
     let g = slots_long r _ c.well_formed.0 in
-    sym (take_all (5 + 2 * l.i) l.w (omega arith)) ∙ l.invariant.2 ∙ ap (λ (m : List Vector). front r ++ words_from m) (take_all l.i r.slots (omega (arith, g)))
+    sym (take_all (5 + 2 * l.i) l.w (omega arith)) ∙ l.invariant.1 ∙ ap (λ (m : List Vector). front r ++ words_from m) (take_all l.i r.slots (omega (arith, g)))

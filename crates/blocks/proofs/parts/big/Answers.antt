@@ -1,20 +1,11 @@
 -- `blocks::parts::big` meets its contract: what the legs left make of the parts stays the same.
-use mathlib.Core.Path.{refl, sym, ap, ◌∙◌}
-use Prim.Native.Nat.{ℕ, ◌-◌, ◌<◌}
+use mathlib.Core.Path.{◌≡◌, refl, sym, ap, ◌∙◌}
+use Prim.Native.Nat.{ℕ, suc, ◌-◌}
 use native.Mathlib.Omega.{arith}
 use Rattle.moves.specs.Step.{bump}
 use Rattle.blocks.specs.Parts.{whole, legs_of}
 use Rattle.blocks.proofs.PartLaw.{legs_more, legs_none}
 use Rattle.blocks.proofs.parts.big.Goals as goal
-
-pub loop-left-init : goal.loop-left-init
-loop-left-init c = (omega arith, refl, record { place = omega arith; found = omega arith; additions = omega arith }, (λ rest. refl))
-
-pub nine-y-requires : goal.nine-y-requires
-nine-y-requires c = omega (arith, c.loop-left.invariant.0, c.loop-left.invariant.1, c.loop-left.invariant.2, c.requires)
-
-pub shape_of-list-then-left-eq0 : goal.shape_of-list-then-left-eq0
-shape_of-list-then-left-eq0 c = omega (arith, c.nine-y.auto, c.loop-left.invariant.1)
 
 pub returns-then-left-eq0 : goal.returns-then-left-eq0
 returns-then-left-eq0 c =
@@ -29,19 +20,6 @@ returns-then-left-eq0 c =
       went = record { place = omega (arith, c.if-left-eq0); found = omega (arith, c.if-left-eq0); additions = omega (arith, c.if-left-eq0) };
     }
 
-pub raise_slot-y-requires : goal.raise_slot-y-requires
-raise_slot-y-requires c =
-    let g = c.nine-y in
-    let l = c.loop-left in
-    let a = c.args in
-    (omega arith, omega (arith, g.ensures.went, l.invariant.0, l.invariant.2, c.requires))
-
-pub overflow_sub-left : goal.overflow_sub-left
-overflow_sub-left c = omega (arith, c.if-left-eq0)
-
-pub loop-left-smaller : goal.loop-left-smaller
-loop-left-smaller c = omega (arith, c.if-left-eq0)
-
 pub loop-left-preserved : goal.loop-left-preserved
 loop-left-preserved c =
     let g = c.nine-y in
@@ -51,12 +29,12 @@ loop-left-preserved c =
     let w = l.invariant.2 in
     let e = g.ensures.went in
     let v = m.went in
-    let h : 0 < l.left = omega (arith, c.if-left-eq0) in
+    let h : l.left ≡ suc (l.left - 1) = omega (arith, c.if-left-eq0) in
     let i = l.invariant.0 in (
       omega arith,
       omega (arith, g.auto, l.invariant.1),
       record { place = omega arith; found = omega arith; additions = omega arith },
       (λ rest.
           ap (legs_of (l.left - 1) a.top.t02 a.top.t12 a.top.t22 a.top) (m.state rest _ ∙ ap (bump 2 l.a2) (g.ensures.state rest))
-          ∙ sym (legs_more l.left l.a0 l.a1 l.a2 a.top (whole l.y rest l.list) h) ∙ l.invariant.3 rest),
+          ∙ sym (legs_more l.left (l.left - 1) l.a0 l.a1 l.a2 a.top (whole l.y rest l.list) h) ∙ l.invariant.3 rest),
     )

@@ -3,13 +3,13 @@ use mathlib.Core.Path.{◌≡◌}
 use native.Mathlib.Omega.{arith}
 use Rattle.blocks.proofs.parts.slot.Goals as goal
 
-pub returns-then-b-eq0 : goal.returns-then-b-eq0
-returns-then-b-eq0 c = λ rest l. rw c.if-b-eq0.true
+pub returns-in-0 : goal.returns-in-0
+returns-in-0 c = λ rest l. rw c.in-0.is
 
-pub returns-then-b-eq1 : goal.returns-then-b-eq1
-returns-then-b-eq1 c = λ rest l. rw c.if-b-eq1.true
+pub returns-in-1 : goal.returns-in-1
+returns-in-1 c = λ rest l. rw c.in-1.is
 
-pub returns : goal.returns
-returns c =
-    let e : c.args.b ≡ 2 = omega (arith, c.requires, c.if-b-eq1, c.if-b-eq0) in
+pub returns-in_default : goal.returns-in_default
+returns-in_default c =
+    let e : c.args.b ≡ 2 = omega (arith, c.requires, c.in_default) in
     λ rest l. rw e

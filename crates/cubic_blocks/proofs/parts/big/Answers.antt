@@ -1,6 +1,6 @@
 -- `cubic_blocks::parts::big` meets its contract: what the legs left make of the parts stays the same.
-use mathlib.Core.Path.{refl, sym, ap, ◌∙◌}
-use Prim.Native.Nat.{ℕ, ◌+◌, ◌-◌, ◌<◌}
+use mathlib.Core.Path.{◌≡◌, refl, sym, ap, ◌∙◌}
+use Prim.Native.Nat.{ℕ, suc, ◌+◌, ◌-◌}
 use native.Mathlib.Omega.{arith}
 use Rattle.trits.specs.declared.Vector.{Vector}
 use Rattle.tables.specs.Words.{entry}
@@ -9,77 +9,40 @@ use Rattle.cubic_blocks.specs.Parts.{whole, nine_of, legs_of}
 use Rattle.cubic_blocks.proofs.PartLaw.{legs_more, legs_none, fits_two}
 use Rattle.cubic_blocks.proofs.parts.big.Goals as goal
 
-pub loop-left-init : goal.loop-left-init
-loop-left-init c = (omega arith, refl, record { place = omega arith; found = omega arith; additions = omega arith }, c.requires.fits, (λ rest. refl))
-
-pub nine-y-requires : goal.nine-y-requires
-nine-y-requires c =
-    let l = c.loop-left in
-    let f = l.invariant.3 in
-    let z = c.requires.found_in_bounds in
-    record { fits = f; found_in_bounds = (omega (arith, l.invariant.0, l.invariant.1, l.invariant.2, z), omega (arith, l.invariant.0, l.invariant.2, z), omega (arith, l.invariant.0, l.invariant.2, z)) }
-
-pub shape_of-list-then-left-eq0 : goal.shape_of-list-then-left-eq0
-shape_of-list-then-left-eq0 c = omega (arith, c.nine-y.auto, c.loop-left.invariant.1)
-
-pub returns-then-left-eq0 : goal.returns-then-left-eq0
-returns-then-left-eq0 c =
+pub loop-j-preserved : goal.loop-j-preserved
+loop-j-preserved c =
     let g = c.nine-y in
-    let l = c.loop-left in
-    let a = c.args in
-    let E = entry a.table.now in
-    let w = l.invariant.2 in
-    let e = g.ensures.went in record {
-      state = (λ rest.
-          g.ensures.state rest ∙ sym (legs_none E a.k l.at l.q (whole l.y rest l.seconds l.list))
-          ∙ ap (λ (j : ℕ). legs_of E a.k j l.at l.q (whole l.y rest l.seconds l.list)) (sym c.if-left-eq0.true) ∙ l.invariant.4 rest);
-      went = record { place = omega (arith, c.if-left-eq0); found = omega (arith, c.if-left-eq0); additions = omega (arith, c.if-left-eq0) };
-    }
-
-pub overflow_add-e : goal.overflow_add-e
-overflow_add-e c = let f = c.loop-left.invariant.3 in omega (arith, f.room2, f.pair, c.well_formed.1.0)
-
-pub overflow_add-seat : goal.overflow_add-seat
-overflow_add-seat c = let f = c.loop-left.invariant.3 in omega (arith, f.low, f.most)
-
-pub vector-requires : goal.vector-requires
-vector-requires c = let f = c.loop-left.invariant.3 in omega (arith, f.room2, f.pair)
-
-pub raise_slot-y-requires : goal.raise_slot-y-requires
-raise_slot-y-requires c =
-    let l = c.loop-left in
-    let f = l.invariant.3 in
-    (omega arith, omega (arith, f.low, f.most), omega (arith, c.nine-y.ensures.went, l.invariant.0, l.invariant.2, c.requires.found_in_bounds))
-
-pub overflow_add-q : goal.overflow_add-q
-overflow_add-q c = let f = c.loop-left.invariant.3 in omega (arith, f.two, f.low, f.room0, c.well_formed.1.0)
-
-pub overflow_sub-left : goal.overflow_sub-left
-overflow_sub-left c = omega (arith, c.if-left-eq0)
-
-pub loop-left-smaller : goal.loop-left-smaller
-loop-left-smaller c = omega (arith, c.if-left-eq0)
-
-pub loop-left-preserved : goal.loop-left-preserved
-loop-left-preserved c =
-    let g = c.nine-y in
-    let l = c.loop-left in
+    let l = c.loop-j in
     let a = c.args in
     let E = entry a.table.now in
     let m = c.raise_slot-y.ensures in
     let t = c.vector.ensures in
-    let w = l.invariant.2 in
+    let w = l.invariant.1 in
     let e = g.ensures.went in
     let v = m.went in
-    let h : 0 < l.left = omega (arith, c.if-left-eq0) in
-    let i = l.invariant.0 in (
-      omega arith,
-      omega (arith, g.auto, l.invariant.1),
+    let h : 2 - l._j ≡ suc (2 - (l._j + 1)) = omega (arith, c.loop-j-test) in (
+      omega (arith, g.auto, l.invariant.0),
       record { place = omega arith; found = omega arith; additions = omega arith },
-      fits_two l.invariant.3,
+      fits_two l.invariant.2,
       (λ rest.
-          ap (legs_of E a.k (l.left - 1) 2 (a.k.p2 + l.at))
+          ap (legs_of E a.k (2 - (l._j + 1)) 2 (a.k.p2 + l.at))
           (m.state rest _ ∙ ap (bump 2 (37 + l.at) c.vector.result) (g.ensures.state rest)
           ∙ ap (λ (x : Vector). bump 2 (37 + l.at) x (nine_of E a.k l.at l.q (whole l.y rest l.seconds l.list))) t)
-          ∙ sym (legs_more E a.k l.left l.at l.q (whole l.y rest l.seconds l.list) h) ∙ l.invariant.4 rest),
+          ∙ sym (legs_more E a.k (2 - l._j) (2 - (l._j + 1)) l.at l.q (whole l.y rest l.seconds l.list) h) ∙ l.invariant.3 rest),
     )
+
+pub returns : goal.returns
+returns c =
+    let g = c.nine in
+    let l = c.loop-j in
+    let a = c.args in
+    let E = entry a.table.now in
+    let w = l.invariant.1 in
+    let e = g.ensures.went in
+    let h : l._j ≡ 2 = omega (arith, c.loop-j-test, l.auto) in
+    let i : 2 - l._j ≡ 0 = omega arith in record {
+      state = (λ rest.
+          g.ensures.state rest ∙ sym (legs_none E a.k l.at l.q (whole l.y rest l.seconds l.list))
+          ∙ ap (λ (j : ℕ). legs_of E a.k j l.at l.q (whole l.y rest l.seconds l.list)) (sym i) ∙ l.invariant.3 rest);
+      went = record { place = omega arith; found = omega arith; additions = omega arith };
+    }

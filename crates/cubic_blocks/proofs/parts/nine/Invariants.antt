@@ -8,10 +8,7 @@ use Rattle.blocks.specs.Parts.{Went}
 use Rattle.cubic_blocks.specs.Parts.{whole, Fits, rows_of}
 use Rattle.cubic_blocks.proofs.parts.nine.Given as goal
 
-abbrev pub invariant-loop-left : goal.invariant-loop-left
-invariant-loop-left l =
-    (l.left ≤ 2) × (length l.list ≡ length l.initial.list) × Went l.initial.y l.y (3 * (2 - l.left)) (9 * (2 - l.left)) × Fits l.table l.k l.at l.q
-    × ((rest : List Vector) → rows_of (entry l.table) l.k l.left l.at l.q (whole l.y rest l.seconds l.list) ≡ rows_of (entry l.table) l.k 2 l.initial.at l.initial.q (whole l.initial.y rest l.initial.seconds l.initial.list))
-
-abbrev pub decreases-loop-left : goal.decreases-loop-left
-decreases-loop-left l = l.left
+abbrev pub invariant-loop-j : goal.invariant-loop-j
+invariant-loop-j l =
+    (length l.list ≡ length l.initial.list) × Went l.initial.y l.y (3 * l._j) (9 * l._j) × Fits l.table l.k l.at l.q
+    × ((rest : List Vector) → rows_of (entry l.table) l.k (2 - l._j) l.at l.q (whole l.y rest l.seconds l.list) ≡ rows_of (entry l.table) l.k 2 l.initial.at l.initial.q (whole l.initial.y rest l.initial.seconds l.initial.list))

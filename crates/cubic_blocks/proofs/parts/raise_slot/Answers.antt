@@ -10,7 +10,7 @@ use Rattle.cubic_blocks.proofs.parts.raise_slot.Goals as goal
 pub returns : goal.returns
 returns c =
     let a = c.args in
-    let g = c.slot-s.ensures in
+    let g = c.slot.ensures in
     let u = c.raised-u in
     let m = c.raise-m.ensures in
     let r = c.after.ensures in record {

@@ -9,13 +9,6 @@ use Rattle.cubic_blocks.specs.Parts.{three_of}
 use Rattle.cubic_blocks.proofs.PartLaw.{beside, beside_note}
 use Rattle.cubic_blocks.proofs.parts.three.Goals as goal
 
-pub step0-requires : goal.step0-requires
-step0-requires c =
-    let q = c.step0-b in
-    let n = c.note-a in
-    let z = c.requires in
-    record { e_in_bounds = (omega (arith, z.p_in_bounds), omega arith); found_in_bounds = (omega (arith, q.ensures.went, q.auto, n.ensures.went, n.auto, z.found_in_bounds), omega (arith, q.ensures.went, n.ensures.went, z.found_in_bounds), omega (arith, q.ensures.went, n.ensures.went, z.found_in_bounds)) }
-
 pub returns : goal.returns
 unfolding three_of
 returns c =

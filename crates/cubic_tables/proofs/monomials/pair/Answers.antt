@@ -11,18 +11,6 @@ use Rattle.cubic_tables.proofs.monomials.pair.Goals as goal
 small : (n b : ℕ) → n ≤ 20 → b < n → (b * n ≤ 400) × (b * (b + 1) ≤ 420) × (b * (b + 1) / 2 ≤ b * n)
 small n b p q = (product_le b n (omega arith) p, omega (arith, product_le b b (omega arith) (omega arith)), half_le n b q)
 
-pub overflow_mul-result : goal.overflow_mul-result
-overflow_mul-result c = omega (arith, small c.args.n c.args.b c.requires.0 (omega (arith, c.requires.1, c.requires.2)))
-
-pub overflow_mul-result-2 : goal.overflow_mul-result-2
-overflow_mul-result-2 c = omega (arith, small c.args.n c.args.b c.requires.0 (omega (arith, c.requires.1, c.requires.2)))
-
-pub overflow_sub-result : goal.overflow_sub-result
-overflow_sub-result c = omega (arith, small c.args.n c.args.b c.requires.0 (omega (arith, c.requires.1, c.requires.2)))
-
-pub overflow_add-result-2 : goal.overflow_add-result-2
-overflow_add-result-2 c = omega (arith, small c.args.n c.args.b c.requires.0 (omega (arith, c.requires.1, c.requires.2)), c.requires)
-
 pub returns : goal.returns
 unfolding pair_of
 returns c =

@@ -28,11 +28,6 @@ loop-k-init c =
     let k : length a.r.walker.slots ≡ 20 = c.well_formed.1.1.1.0.1.1.0.1.1.1.1.0.1.0.1 in
     (refl, c.keys-k.ensures, c.all_keys-all.ensures, rw c.opened-x.ensures (kept_none a.table.now a.n a.end c.requires.sized a.budget a.r a.list.now k c.requires.sane_2 y.1 y.2))
 
-pub room-requires : goal.room-requires
-room-requires c =
-    let k = c.loop-k.invariant.3 in
-    (k.walked.sound.place, omega (arith, c.loop-k.invariant.0, k.walked.sound.found, k.walked.list))
-
 pub overflow_add-b : goal.overflow_add-b
 overflow_add-b c =
     let l = c.loop-k in
@@ -43,17 +38,6 @@ overflow_add-b c =
     let v = c.split-f in
     let f = first a.table.now a.n a.end c.requires.sized k o.1 v.result.position v.result.rest v.ensures.position v.ensures.whole v.ensures.above in
     omega (arith, f.low, c.requires.sized.small)
-
-pub overflow_sub-f : goal.overflow_sub-f
-overflow_sub-f c =
-    let l = c.loop-k in
-    let a = c.args in
-    let k = l.invariant.3 in
-    let m : length l.list ≡ length a.list.now = k.walked.list in
-    let o = c.room.ensures c.loop-k-test.true in
-    let v = c.split-f in
-    let f = first a.table.now a.n a.end c.requires.sized k o.1 v.result.position v.result.rest v.ensures.position v.ensures.whole v.ensures.above in
-    omega (arith, f.some)
 
 pub overflow_add-c : goal.overflow_add-c
 overflow_add-c c =
@@ -112,19 +96,6 @@ bounds-all-b c =
     let f = first a.table.now a.n a.end c.requires.sized k o.1 v.result.position v.result.rest v.ensures.position v.ensures.whole v.ensures.above in
     omega (arith, f.low, c.requires.sized.small)
 
-pub overflow_sub-rest : goal.overflow_sub-rest
-overflow_sub-rest c =
-    let l = c.loop-k in
-    let a = c.args in
-    let k = l.invariant.3 in
-    let m : length l.list ≡ length a.list.now = k.walked.list in
-    let o = c.room.ensures c.loop-k-test.true in
-    let v = c.split-f in
-    let f = first a.table.now a.n a.end c.requires.sized k o.1 v.result.position v.result.rest v.ensures.position v.ensures.whole v.ensures.above in
-    let g = c.split-g in
-    let h = seconds a.n l.x _ v.result.rest g.result.position g.result.rest f (omega arith) g.ensures.position g.ensures.whole g.ensures.above in
-    omega (arith, h.some)
-
 pub block27-t-requires : goal.block27-t-requires
 block27-t-requires c =
     let l = c.loop-k in
@@ -159,28 +130,6 @@ bounds-slots-b-in-loop-k c =
     let v = c.split-f in
     let f = first a.table.now a.n a.end c.requires.sized k o.1 v.result.position v.result.rest v.ensures.position v.ensures.whole v.ensures.above in
     omega (arith, f.low, c.requires.sized.small)
-
-pub overflow_sub-left : goal.overflow_sub-left
-overflow_sub-left c =
-    let l = c.loop-k in
-    let a = c.args in
-    let k = l.invariant.3 in
-    let m : length l.list ≡ length a.list.now = k.walked.list in
-    let o = c.room.ensures c.loop-k-test.true in
-    let v = c.split-f in
-    let f = first a.table.now a.n a.end c.requires.sized k o.1 v.result.position v.result.rest v.ensures.position v.ensures.whole v.ensures.above in
-    omega (arith, o)
-
-pub loop-k-smaller : goal.loop-k-smaller
-loop-k-smaller c =
-    let l = c.loop-k in
-    let a = c.args in
-    let k = l.invariant.3 in
-    let m : length l.list ≡ length a.list.now = k.walked.list in
-    let o = c.room.ensures c.loop-k-test.true in
-    let v = c.split-f in
-    let f = first a.table.now a.n a.end c.requires.sized k o.1 v.result.position v.result.rest v.ensures.position v.ensures.whole v.ensures.above in
-    omega (arith, o)
 
 pub loop-k-preserved : goal.loop-k-preserved
 loop-k-preserved c =

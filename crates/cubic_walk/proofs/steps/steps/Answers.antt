@@ -12,12 +12,6 @@ use Rattle.cubic_moves.proofs.NearLaw.{counts, state_by, step_near, turns}
 use Rattle.walks.proofs.WalkedLaw.{walked_none, walked_one, goes_no_more}
 use Rattle.cubic_walk.proofs.steps.steps.Goals as goal
 
-pub loop-f-init : goal.loop-f-init
-loop-f-init c =
-    let a = c.args in
-    let z = c.requires.sane_2 in
-    (refl, walked_none 3 (walk_of a.n (triple_at a.table.now a.n)) counts 3 a.end a.budget (state_of a.r a.list.now) record { place = z.place; found = z.found; additions = z.additions })
-
 pub offset_bounds-slots-b : goal.offset_bounds-slots-b
 offset_bounds-slots-b c =
     let l = c.loop-f in
@@ -54,34 +48,6 @@ bounds-slots-b-in-loop-f c =
     let a = c.args in
     let g = turns a.table.now a.n a.end c.requires.sized a.budget l.left (length a.list.now) _ _ _ l.invariant.1 refl c.going.ensures c.loop-f-test.true in
     omega (arith, g.low, c.split-f.ensures.position, c.requires.sized.small)
-
-pub mark-found-requires : goal.mark-found-requires
-mark-found-requires c =
-    let l = c.loop-f in
-    let a = c.args in
-    let g = turns a.table.now a.n a.end c.requires.sized a.budget l.left (length a.list.now) _ _ _ l.invariant.1 refl c.going.ensures c.loop-f-test.true in
-    (c.requires.sized.small, g.goes.found)
-
-pub overflow_add-place : goal.overflow_add-place
-overflow_add-place c =
-    let l = c.loop-f in
-    let a = c.args in
-    let g = turns a.table.now a.n a.end c.requires.sized a.budget l.left (length a.list.now) _ _ _ l.invariant.1 refl c.going.ensures c.loop-f-test.true in
-    omega (arith, g.goes.place, g.end)
-
-pub overflow_sub-left : goal.overflow_sub-left
-overflow_sub-left c =
-    let l = c.loop-f in
-    let a = c.args in
-    let g = turns a.table.now a.n a.end c.requires.sized a.budget l.left (length a.list.now) _ _ _ l.invariant.1 refl c.going.ensures c.loop-f-test.true in
-    omega (arith, g.goes.left)
-
-pub loop-f-smaller : goal.loop-f-smaller
-loop-f-smaller c =
-    let l = c.loop-f in
-    let a = c.args in
-    let g = turns a.table.now a.n a.end c.requires.sized a.budget l.left (length a.list.now) _ _ _ l.invariant.1 refl c.going.ensures c.loop-f-test.true in
-    omega (arith, g.goes.left)
 
 pub loop-f-preserved : goal.loop-f-preserved
 loop-f-preserved c =

@@ -1,12 +1,9 @@
 use mathlib.Core.Path.{◌≡◌}
-use Prim.Native.Nat.{ℕ, ◌-◌, ◌/◌, ◌^◌, ◌≤◌}
+use Prim.Native.Nat.{ℕ, ◌/◌, ◌^◌}
 use Rattle.gray.specs.Numbers.{point_digit}
 use Rattle.gray.proofs.RestLaw.{Stored}
 use Rattle.gray.proofs.digits.digits_at.Given as goal
 
 abbrev pub invariant-loop-k : goal.invariant-loop-k
 invariant-loop-k l =
-    (l.from ≤ l.k) × (l.k ≤ l.n) × ((p : ℕ) → l.initial.rest ≡ p / 3 ^ l.from → (l.rest ≡ p / 3 ^ l.k) × Stored (point_digit 3 p) l.from l.k l.d)
-
-abbrev pub decreases-loop-k : goal.decreases-loop-k
-decreases-loop-k l = l.n - l.k
+    (p : ℕ) → l.initial.rest ≡ p / 3 ^ l.from → (l.rest ≡ p / 3 ^ l.k) × Stored (point_digit 3 p) l.from l.k l.d

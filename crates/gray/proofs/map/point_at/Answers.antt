@@ -1,10 +1,9 @@
 -- `gray::map::point_at` meets its contract: what is done and what remains make up the point.
-use mathlib.Core.Path.{◌≡◌, refl, sym, ap, ◌∙◌}
+use mathlib.Core.Path.{◌≡◌, sym, ap, ◌∙◌}
 use Prim.Native.Nat.{ℕ, ◌+◌, ◌-◌, ◌*◌, ◌/◌, ◌%◌, ◌^◌, ◌<◌}
 use native.Mathlib.Nat.{pow-suc}
 use native.Mathlib.Numerals.{add-one}
 use native.Mathlib.Omega.{arith}
-use Rattle.gray.specs.Numbers.{point_of}
 use Rattle.gray.proofs.TurnLaw.{power_small, point_turn, point_done, digit_small}
 use Rattle.gray.proofs.map.point_at.Goals as goal
 
@@ -14,44 +13,37 @@ whole x = omega arith
 none : (n : ℕ) → n - 0 ≡ n
 none n = omega arith
 
-pub loop-i-init : goal.loop-i-init
-loop-i-init c =
-    let a = c.args in
-    (omega arith, omega arith, refl, omega arith, whole (point_of 3 (a.n - 0) a.p.0) ∙ ap (λ (k : ℕ). point_of 3 k a.p.0) (none a.n))
-
 pub overflow_mul-point : goal.overflow_mul-point
 overflow_mul-point c =
-    let l = c.loop-i in
+    let l = c.loop in
     let d : (l.rest % 3 + 3 - l.rest / 3 % 3) % 3 < 3 = omega arith in
-    omega (arith, power_small l.i (omega arith), digit_small l.point l.weight ((l.rest % 3 + 3 - l.rest / 3 % 3) % 3) l.invariant.3 d)
+    omega (arith, power_small l.counter (omega arith), digit_small l.point l.weight ((l.rest % 3 + 3 - l.rest / 3 % 3) % 3) l.invariant.1 d)
 
 pub overflow_add-point : goal.overflow_add-point
 overflow_add-point c =
-    let l = c.loop-i in
+    let l = c.loop in
     let d : (l.rest % 3 + 3 - l.rest / 3 % 3) % 3 < 3 = omega arith in
-    omega (arith, power_small l.i (omega arith), digit_small l.point l.weight ((l.rest % 3 + 3 - l.rest / 3 % 3) % 3) l.invariant.3 d)
+    omega (arith, power_small l.counter (omega arith), digit_small l.point l.weight ((l.rest % 3 + 3 - l.rest / 3 % 3) % 3) l.invariant.1 d)
 
 pub overflow_mul-weight : goal.overflow_mul-weight
 overflow_mul-weight c =
-    let l = c.loop-i in
-    omega (arith, power_small l.i (omega arith))
+    let l = c.loop in
+    omega (arith, power_small l.counter (omega arith))
 
-pub loop-i-preserved : goal.loop-i-preserved
-loop-i-preserved c =
-    let l = c.loop-i in
+pub loop-preserved : goal.loop-preserved
+loop-preserved c =
+    let l = c.loop in
     let n = c.args.n in
-    let b : l.i < n = omega arith in
+    let b : l.counter < n = omega arith in
     let d : (l.rest % 3 + 3 - l.rest / 3 % 3) % 3 < 3 = omega arith in
-    let w : l.weight * 3 ≡ 3 ^ (l.i + 1) = ap (λ (k : ℕ). k * 3) l.invariant.2 ∙ sym (pow-suc 3 l.i) ∙ ap (λ (k : ℕ). 3 ^ k) (sym (add-one l.i)) in (
-      l.invariant.0,
-      omega arith,
+    let w : l.weight * 3 ≡ 3 ^ (l.counter + 1) = ap (λ (k : ℕ). k * 3) l.invariant.0 ∙ sym (pow-suc 3 l.counter) ∙ ap (λ (k : ℕ). 3 ^ k) (sym (add-one l.counter)) in (
       w,
-      digit_small l.point l.weight ((l.rest % 3 + 3 - l.rest / 3 % 3) % 3) l.invariant.3 d,
-      sym (point_turn l.point l.weight n l.i l.rest b) ∙ l.invariant.4,
+      digit_small l.point l.weight ((l.rest % 3 + 3 - l.rest / 3 % 3) % 3) l.invariant.1 d,
+      sym (point_turn l.point l.weight n l.counter l.rest b) ∙ l.invariant.2,
     )
 
 pub returns : goal.returns
 returns c =
-    let l = c.loop-i in
+    let l = c.loop in
     let n = c.args.n in
-    sym (point_done l.point l.weight n l.i l.rest (omega arith)) ∙ l.invariant.4
+    sym (point_done l.point l.weight n l.counter l.rest (omega arith)) ∙ l.invariant.2

@@ -1,23 +1,11 @@
 -- `opening::parts::fill` meets its contract: the parts of the record, from the coefficients that were written.
-use mathlib.Core.Path.{sym, ◌∙◌}
-use native.Mathlib.Nat.{pow-zero}
+use mathlib.Core.Path.{◌∙◌}
 use native.Mathlib.Omega.{arith}
 use lib.ListN.{get_or}
 use Rattle.given.specs.Given.{quadratic}
 use Rattle.given.proofs.TableLaw.{within, table_of_lem, power_small}
 use Rattle.opening.proofs.OpenLaw.{opened_from}
 use Rattle.opening.proofs.parts.fill.Goals as goal
-
-pub digits_at-x-requires : goal.digits_at-x-requires
-digits_at-x-requires c = ((within (quadratic c.args.n c.args.m c.args.table.now) c.requires.0).most, omega arith, sym (pow-zero 3))
-
-pub coefficients_into-requires : goal.coefficients_into-requires
-coefficients_into-requires c =
-    ((within (quadratic c.args.n c.args.m c.args.table.now) c.requires.0).most, (table_of_lem c.args.n c.args.m c.args.table.now c.requires.0).size, c.requires.2)
-
-pub value_at-value-requires : goal.value_at-value-requires
-value_at-value-requires c =
-    ((within (quadratic c.args.n c.args.m c.args.table.now) c.requires.0).most, c.coefficients_into.auto.to ∙ c.requires.2)
 
 pub slots-slots-requires : goal.slots-slots-requires
 slots-slots-requires c = (

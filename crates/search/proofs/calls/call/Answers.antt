@@ -9,16 +9,16 @@ use Rattle.search.proofs.calls.call.Goals as goal
 pub ran-requires : goal.ran-requires
 ran-requires c =
     let a = c.args in
-    let p = passed (table_with a.degree a.n a.m a.table.now) (whole_of a.degree a.f a.seconds.now) a.budget (length a.list.now) (sym c.judged-verdict.ensures ∙ c.in-Done.is) in
+    let p = passed (table_with a.degree a.n a.m a.table.now) (whole_of a.degree a.f a.seconds.now) a.budget (length a.list.now) (sym c.judged-verdict.ensures ∙ c.in-Ok.is) in
     (p.checked, p.own, c.requires)
 
-pub returns-in-Refused : goal.returns-in-Refused
-returns-in-Refused c =
+pub returns-in-Err : goal.returns-in-Err
+returns-in-Err c =
     let a = c.args in
-    away (table_with a.degree a.n a.m a.table.now) (whole_of a.degree a.f a.seconds.now) a.budget a.list.now _ (sym c.judged-verdict.ensures ∙ c.in-Refused.is)
+    away (table_with a.degree a.n a.m a.table.now) (whole_of a.degree a.f a.seconds.now) a.budget a.list.now _ (sym c.judged-verdict.ensures ∙ c.in-Err.is)
 
-pub returns-in-Done : goal.returns-in-Done
-returns-in-Done c =
+pub returns-in-Ok : goal.returns-in-Ok
+returns-in-Ok c =
     let a = c.args in
     let k = c.ran in
-    went (table_with a.degree a.n a.m a.table.now) (whole_of a.degree a.f a.seconds.now) a.budget a.list.now (sym c.judged-verdict.ensures ∙ c.in-Done.is) _ _ k.ensures.0 k.ensures.1
+    went (table_with a.degree a.n a.m a.table.now) (whole_of a.degree a.f a.seconds.now) a.budget a.list.now (sym c.judged-verdict.ensures ∙ c.in-Ok.is) _ _ k.ensures.0 k.ensures.1

@@ -1,8 +1,8 @@
 -- `search::calls::reported` meets its contract.
+use Rattle.std.specs.Prelude.{Ok}
 use mathlib.Core.Path.{ap}
 use Prim.Native.Nat.{◌-◌}
 use Rattle.walks.specs.declared.Stop.{Stop}
-use Rattle.outcomes.specs.declared.Answer.TheVariants as answer
 use Rattle.search.proofs.calls.reported.Goals as goal
 
 pub returns : goal.returns
@@ -10,6 +10,6 @@ returns c =
     let a = c.args in
     let x = a.t in
     ap (λ (s : Stop). record {
-      answer = answer.Ran (record { stop = s; points = x.«record».place.0 - a.from; additions = x.additions; found = x.found });
+      answer = Ok (record { stop = s; points = x.«record».place.0 - a.from; additions = x.additions; found = x.found });
       «record» = x.«record»;
     }) c.stop_of-stop.ensures

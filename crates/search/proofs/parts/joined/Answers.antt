@@ -2,8 +2,8 @@
 use Rattle.outcomes.proofs.FirstLaw.{joined_refused, joined_ran}
 use Rattle.search.proofs.parts.joined.Goals as goal
 
-pub returns-in-Refused : goal.returns-in-Refused
-returns-in-Refused c = joined_refused _ _ _ _ _ c.in-Refused.is
+pub returns-in-Err : goal.returns-in-Err
+returns-in-Err c = joined_refused _ _ _ _ _ c.in-Err.is
 
-pub returns-in-Ran : goal.returns-in-Ran
-returns-in-Ran c = joined_ran _ _ _ _ _ c.in-Ran.is
+pub returns-in-Ok : goal.returns-in-Ok
+returns-in-Ok c = rw c.with-record.ensures (joined_ran c.args.o.answer c.args.o.first c.args.r c.args.seconds _ c.in-Ok.is)

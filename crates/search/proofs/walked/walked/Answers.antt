@@ -72,4 +72,4 @@ returns c =
     ap (λ (i : ℕ). x.new.seconds ++ drop i s) h ∙ seconds_left a.degree x.new.seconds s kept long (sym front ∙ ap (λ (y : Record). y.seconds) own)
     in
     let p : c.first_for-f.result.place.0 ≡ a.r.place.0 = ap (λ (f : First). f.place.0) c.first_for-f.ensures in
-    placed (table_with a.degree a.n a.m a.table.now) a.budget a.list.now x.new.list x.new.seconds t _ _ p x.ensures _ left
+    rw c.with.ensures (placed (table_with a.degree a.n a.m a.table.now) a.budget a.list.now x.new.list x.new.seconds t _ _ p x.ensures _ left)

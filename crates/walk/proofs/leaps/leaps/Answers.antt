@@ -13,23 +13,12 @@ returns-then-not-ready c =
     let a = c.args in
     record { state = ap (λ (j : ℕ). search_of a.table.now a.n a.end j (state_of a.r a.list.now)) (omega arith); sane = c.requires.sane_2; less = (omega arith, omega arith) }
 
-pub tops-top-requires : goal.tops-top-requires
-tops-top-requires c =
-    let z = c.requires.sized in
-    let y = c.ready.ensures (search rules) in
-    record { sized = record { some = z.some; small = z.small; table = z.table; end = omega arith }; le_n = omega (arith, y) }
-
 pub loop-top-init : goal.loop-top-init
 loop-top-init c =
     let a = c.args in
     let y = c.ready.ensures (search rules) in
     let k : length a.r.walker.slots ≡ 20 = c.well_formed.1.1.1.0.1.1.0.1.1.1.1.0.1.0.1 in
     (refl, rw c.opened-x.ensures (kept_none a.table.now a.n a.end c.requires.sized a.budget a.r a.list.now k c.requires.sane_2 y.1 y.2))
-
-pub room-requires : goal.room-requires
-room-requires c =
-    let k = c.loop-top.invariant.1 in
-    (k.walked.place, omega (arith, c.loop-top.invariant.0, k.walked.found, k.walked.list))
 
 pub overflow_add-b : goal.overflow_add-b
 overflow_add-b c =
@@ -96,28 +85,6 @@ bounds-slots-b-in-loop-top c =
     let v = c.split-f in
     let f = fits a.table.now a.n a.end c.requires.sized k o.1 v.result.position v.result.rest v.ensures.position v.ensures.whole in
     omega (arith, f.low, c.requires.sized.small)
-
-pub overflow_sub-left : goal.overflow_sub-left
-overflow_sub-left c =
-    let l = c.loop-top in
-    let a = c.args in
-    let k = l.invariant.1 in
-    let m : length l.list ≡ length a.list.now = k.walked.list in
-    let o = c.room.ensures c.loop-top-test.true in
-    let v = c.split-f in
-    let f = fits a.table.now a.n a.end c.requires.sized k o.1 v.result.position v.result.rest v.ensures.position v.ensures.whole in
-    omega (arith, o)
-
-pub loop-top-smaller : goal.loop-top-smaller
-loop-top-smaller c =
-    let l = c.loop-top in
-    let a = c.args in
-    let k = l.invariant.1 in
-    let m : length l.list ≡ length a.list.now = k.walked.list in
-    let o = c.room.ensures c.loop-top-test.true in
-    let v = c.split-f in
-    let f = fits a.table.now a.n a.end c.requires.sized k o.1 v.result.position v.result.rest v.ensures.position v.ensures.whole in
-    omega (arith, o)
 
 pub loop-top-preserved : goal.loop-top-preserved
 loop-top-preserved c =

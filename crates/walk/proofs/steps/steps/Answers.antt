@@ -9,13 +9,6 @@ use Rattle.moves.proofs.MoveLaw.{step_note}
 use Rattle.walk.proofs.WalkedLaw.{state_by, walked_none, walked_one, goes_on, goes_no_more}
 use Rattle.walk.proofs.steps.steps.Goals as goal
 
-pub loop-f-init : goal.loop-f-init
-loop-f-init c =
-    let a = c.args in
-    let z = c.requires.sane_2 in
-    let k : length a.r.walker.slots ≡ 20 = c.well_formed.1.1.1.0.1.1.0.1.1.1.1.0.1.0.1 in
-    (refl, walked_none a.table.now a.n a.end a.budget (state_of a.r a.list.now) k z.place z.found z.additions)
-
 pub offset_bounds-slots-b : goal.offset_bounds-slots-b
 offset_bounds-slots-b c =
     let l = c.loop-f in
@@ -51,34 +44,6 @@ bounds-slots-b-in-loop-f c =
     let a = c.args in
     let g = goes_on a.table.now a.n a.end a.budget l.left (length a.list.now) _ _ _ c.requires.sized l.invariant.1 refl c.going.ensures c.loop-f-test.true in
     omega (arith, g.low, c.split-f.ensures.position, c.requires.sized.small)
-
-pub mark-found-requires : goal.mark-found-requires
-mark-found-requires c =
-    let l = c.loop-f in
-    let a = c.args in
-    let g = goes_on a.table.now a.n a.end a.budget l.left (length a.list.now) _ _ _ c.requires.sized l.invariant.1 refl c.going.ensures c.loop-f-test.true in
-    (c.requires.sized.small, g.found)
-
-pub overflow_add-place : goal.overflow_add-place
-overflow_add-place c =
-    let l = c.loop-f in
-    let a = c.args in
-    let g = goes_on a.table.now a.n a.end a.budget l.left (length a.list.now) _ _ _ c.requires.sized l.invariant.1 refl c.going.ensures c.loop-f-test.true in
-    omega (arith, g.place, g.end)
-
-pub overflow_sub-left : goal.overflow_sub-left
-overflow_sub-left c =
-    let l = c.loop-f in
-    let a = c.args in
-    let g = goes_on a.table.now a.n a.end a.budget l.left (length a.list.now) _ _ _ c.requires.sized l.invariant.1 refl c.going.ensures c.loop-f-test.true in
-    omega (arith, g.left)
-
-pub loop-f-smaller : goal.loop-f-smaller
-loop-f-smaller c =
-    let l = c.loop-f in
-    let a = c.args in
-    let g = goes_on a.table.now a.n a.end a.budget l.left (length a.list.now) _ _ _ c.requires.sized l.invariant.1 refl c.going.ensures c.loop-f-test.true in
-    omega (arith, g.left)
 
 pub loop-f-preserved : goal.loop-f-preserved
 loop-f-preserved c =

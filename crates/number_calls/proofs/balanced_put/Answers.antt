@@ -1,0 +1,30 @@
+-- `number_calls::balanced_put` meets its contract: the room is refused, or the answer says all.
+use mathlib.Core.Path.{sym, ◌∙◌}
+use mathlib.Core.List.{[], ◌∷◌}
+use lib.ListN.{length}
+use Rattle.std.proofs.Common.{rules}
+use Rattle.gray.specs.Answers.{convert_verdict}
+use Rattle.balanced.specs.Answers.{BalancedAnswer}
+use Rattle.balanced.specs.Balanced.{balanced_of}
+use Rattle.lent.specs.Lent.{single, judged, balanced_put}
+use Rattle.lent.proofs.LentLaw.{refused_first, answered, single_refused, single_done, balanced_meets}
+use Rattle.number_calls.proofs.balanced_put.Goals as goal
+
+pub returns-in_err-room_for_one : goal.returns-in_err-room_for_one
+returns-in_err-room_for_one c =
+    let a = c.args in
+    let l = a.number.now in
+    refused_first (single a.n (length l)) (single_refused a.n (length l)) _ c.room_for_one.ensures _ c.in_err-room_for_one.was c.from_residual.result (search rules) (convert_verdict a.n a.point) l (balanced_of a.n a.point ∷ [])
+
+pub put_balanced-requires : goal.put_balanced-requires
+put_balanced-requires c = (single_done c.args.n (length c.args.number.now) (sym c.room_for_one.ensures ∙ c.in_ok-room_for_one.was)).0
+
+pub returns : goal.returns
+returns c =
+    let a = c.args in
+    let l = a.number.now in
+    let h = single_done a.n (length l) (sym c.room_for_one.ensures ∙ c.in_ok-room_for_one.was) in
+    let u = convert_verdict a.n a.point in
+    let x = balanced_of a.n a.point in
+    let p = c.put_balanced.ensures in
+    answered (λ (z : BalancedAnswer). judged z) (λ (z : BalancedAnswer). balanced_put z l) (single a.n (length l) u) u (h.1 u) _ _ c.to_balanced-a.ensures.answer _ _ l (x ∷ []) p.answer p.left (balanced_meets u x l)
