@@ -4,7 +4,8 @@
 
 ghost use Rattle.std.specs.Prelude.{◌≡◌};
 ghost use Rattle.refusals.specs.Refusal.{code_of, done};
-ghost use Rattle.given.specs.Given.{table_with, table_verdict, degree_told};
+ghost use Rattle.given.specs.Given.{table_verdict, degree_told};
+ghost use Rattle.given.specs.Told.{told};
 
 use checks::Quadratic;
 use refusals::{MOST_UNKNOWNS, Refusal};
@@ -16,14 +17,23 @@ pub enum Degree {
     Three,
 }
 
+// The words of a table, and what is told beside them: the degree, n unknowns and m equations.
+#[derive(Clone, Copy)]
+pub struct Told<'a> {
+    pub degree: Degree,
+    pub n: u64,
+    pub m: u64,
+    pub words: &'a [u64],
+}
+
 // A table by itself: its sizes, its length, its pairs.
-pub fn check(degree: Degree, n: u64, m: u64, table: &[u64]) -> Result<(), Refusal>
-    ensures answer { result ≡ table_verdict (table_with degree n m table.now) done }
-    ensures number { code_of result ≡ code_of (table_verdict (table_with degree n m table.now) done) }
+pub fn check(table: Told) -> Result<(), Refusal>
+    ensures answer { result ≡ table_verdict (told table.entry) done }
+    ensures number { code_of result ≡ code_of (table_verdict (told table.entry) done) }
 {
-    match degree {
-        Degree::Two => checks::check::<Quadratic>(n, m, table),
-        Degree::Three => cubic_checks::check(n, m, table),
+    match table.degree {
+        Degree::Two => checks::check::<Quadratic>(table.n, table.m, table.words),
+        Degree::Three => cubic_checks::check(table.n, table.m, table.words),
     }
 }
 
