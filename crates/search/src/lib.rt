@@ -4,7 +4,6 @@
 mod calls;
 mod lent;
 mod parts;
-mod walked;
 
 pub use calls::{judged, ran, search};
 pub use lent::search_lent;
