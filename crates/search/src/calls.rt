@@ -7,7 +7,7 @@ ghost use Rattle.opening.specs.First.{lent_words, whole_of};
 ghost use Rattle.outcomes.specs.Search.{trail_behind, fits, room_verdict, ran_of, outcome_of, list_left, Tells};
 ghost use Rattle.outcomes.specs.First.{outcome_with};
 
-use crate::parts::{first_for, joined, lent_words};
+use crate::parts::{first_for, in_parts, lent_words};
 use given::Told;
 use opening::{First, Record};
 use outcomes::{Moved, Outcome};
@@ -19,11 +19,9 @@ pub fn ran(table: Told, r: Record, budget: u64, list: &mut [u64]) -> Outcome
     ensures { (result ≡ ran_of (told table.entry) r.place.0 budget (length list.old))
         × (list.new ≡ list_after (trail_behind (told table.entry)) budget r.place.0 list.old) }
 {
-    let f = first_for(table.degree, r);
-    let mut seconds = r.seconds;
-    let k = lent_words(table.degree);
-    let o = reporting::ran(table, f, &mut seconds[..k], budget, list);
-    joined(o, r, seconds)
+    in_parts(table, r, list, |table, f, seconds, list| {
+        reporting::ran(table, f, seconds, budget, list)
+    })
 }
 
 // All that a call is refused for, with a list of so many entries.
@@ -57,9 +55,7 @@ pub fn search(table: Told, r: Record, budget: u64, list: &mut [u64]) -> Outcome
         × (list.new ≡ list_left (told table.entry) r budget list.old)
         × Tells (told table.entry) r budget list.old result.answer }
 {
-    let f = first_for(table.degree, r);
-    let mut seconds = r.seconds;
-    let k = lent_words(table.degree);
-    let o = call(table, f, &mut seconds[..k], budget, list);
-    joined(o, r, seconds)
+    in_parts(table, r, list, |table, f, seconds, list| {
+        call(table, f, seconds, budget, list)
+    })
 }

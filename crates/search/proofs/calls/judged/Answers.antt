@@ -12,16 +12,6 @@ use Rattle.outcomes.specs.Search.{room_verdict}
 use Rattle.outcomes.proofs.FirstLaw.{lent_most, lent_front, parts_verdict}
 use Rattle.search.proofs.calls.judged.Goals as goal
 
-pub slice_bounds-judged-end : goal.slice_bounds-judged-end
-slice_bounds-judged-end c =
-    let h = c.lent_words-k.ensures in
-    sym (length-take-le c.lent_words-k.result c.args.r.seconds (omega (arith, h, lent_most c.args.table.degree, seconds_long c.args.r _ c.well_formed.1.0)))
-
-pub judged-requires : goal.judged-requires
-judged-requires c =
-    let h = c.lent_words-k.ensures in
-    length-take-le c.lent_words-k.result c.args.r.seconds (omega (arith, h, lent_most c.args.table.degree, seconds_long c.args.r _ c.well_formed.1.0)) ∙ h
-
 pub returns : goal.returns
 returns c =
     let a = c.args in
