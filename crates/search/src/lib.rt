@@ -7,4 +7,4 @@ mod parts;
 
 pub use calls::{judged, ran, search};
 pub use lent::search_lent;
-pub use parts::{first_for, joined, lent_words};
+pub use parts::{first_for, in_parts, joined, lent_words};
