@@ -4,7 +4,7 @@
 
 ghost use Rattle.std.specs.Prelude.{◌≡◌};
 ghost use Rattle.refusals.specs.Refusal.{code_of, done};
-ghost use Rattle.given.specs.Given.{table_verdict, degree_told};
+ghost use Rattle.given.specs.Given.{table_verdict, degree_told, table_told};
 ghost use Rattle.given.specs.Told.{told};
 
 use checks::Quadratic;
@@ -51,4 +51,18 @@ pub fn degree_of(n: u64, words: usize) -> Degree
         return Degree::Three;
     }
     Degree::Two
+}
+
+impl<'a> Told<'a> {
+    // The table of these words, of the degree that their number tells, where none is told beside it.
+    pub fn by_length(n: u64, m: u64, words: &'a [u64]) -> Self
+        ensures { told result ≡ table_told n m words.now }
+    {
+        Told {
+            degree: degree_of(n, words.len()),
+            n,
+            m,
+            words,
+        }
+    }
 }
