@@ -38,9 +38,9 @@ module _ (g : Given) where
       points_are = omega (arith, place_is)
 
       pub whole_is : record {
-            answer = Ok (record { stop = stop_from r.place.0 (3 ^ g.n) found (length l); points = r.place.0 - p; additions = additions; found = found });
-            «record» = r;
-          } ≡ ran_of g p b (length l)
+        answer = Ok (record { stop = stop_from r.place.0 (3 ^ g.n) found (length l); points = r.place.0 - p; additions = additions; found = found });
+        «record» = r;
+      } ≡ ran_of g p b (length l)
       whole_is =
           let e1 = stop_is in
           let e2 = points_are in

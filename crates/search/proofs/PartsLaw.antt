@@ -4,13 +4,12 @@ use mathlib.Core.Bool.{true}
 use mathlib.Core.List.{List}
 use Prim.Native.Nat.{ℕ}
 use lib.ListN.{length}
-use Rattle.walks.specs.Calls.{report_of, list_after}
 use Rattle.given.specs.Given.{Given, Checked}
 use Rattle.opening.specs.declared.Record.{Record}
 use Rattle.opening.specs.First.{whole_of}
 use Rattle.outcomes.specs.declared.Moved.{Moved}
 use Rattle.outcomes.specs.declared.Outcome.{Outcome}
-use Rattle.outcomes.specs.Search.{trail_behind, fits, ran_of, outcome_of, list_left, Tells}
+use Rattle.outcomes.specs.Search.{fits, ran_of, outcome_of, list_left, Tells}
 use Rattle.outcomes.specs.First.{first_for, outcome_with}
 use Rattle.outcomes.proofs.VerdictLaw.{tells_of}
 use Rattle.outcomes.proofs.FirstLaw.{parts_fit, parts_ran, parts_joined}

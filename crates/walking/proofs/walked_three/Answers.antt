@@ -2,12 +2,9 @@
 use mathlib.Core.Path.{ap, ◌∙◌}
 use mathlib.Core.List.{List}
 use Prim.Native.Nat.{ℕ}
-use native.Mathlib.Omega.{arith}
 use Rattle.cubic_walk.specs.Run.{fresh, search_of}
 use Rattle.given.specs.declared.Degree.TheVariants.{Three}
-use Rattle.given.proofs.TableLaw.{within, cubic_table_of}
 use Rattle.opening.specs.First.{whole_of}
-use Rattle.outcomes.proofs.FitsLaw.{fits_place}
 use Rattle.walking.proofs.ThreeLaw.{three_leaves}
 use Rattle.walking.proofs.walked_three.Goals as goal
 

@@ -1,10 +1,7 @@
 -- `walking::walked_two` meets its contract: the walk from the opened record.
 use mathlib.Core.List.{[]}
-use native.Mathlib.Omega.{arith}
 use Rattle.given.specs.declared.Degree.TheVariants.{Two}
 use Rattle.opening.specs.First.{whole_of}
-use Rattle.given.proofs.TableLaw.{within, table_of_lem}
-use Rattle.outcomes.proofs.FitsLaw.{fits_place}
 use Rattle.walking.proofs.TwoLaw.{two_leaves}
 use Rattle.walking.proofs.walked_two.Goals as goal
 

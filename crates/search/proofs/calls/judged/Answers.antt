@@ -1,15 +1,13 @@
 -- `search::calls::judged` meets its contract: the two parts of the record are refused as it is.
-use mathlib.Core.Path.{◌≡◌, sym, ap, ◌∙◌}
+use mathlib.Core.Path.{◌≡◌, ap, ◌∙◌}
 use Prim.Native.Nat.{ℕ}
-use native.Mathlib.Omega.{arith}
 use lib.ListN.{take}
-use lib.Seq.{length-take-le}
 use Rattle.given.specs.Told.{told}
 use Rattle.opening.specs.declared.First.{First}
 use Rattle.opening.proofs.ShapeLaw.{seconds_long}
 use Rattle.opening.specs.First.{seconds_from, whole_of}
 use Rattle.outcomes.specs.Search.{room_verdict}
-use Rattle.outcomes.proofs.FirstLaw.{lent_most, lent_front, parts_verdict}
+use Rattle.outcomes.proofs.FirstLaw.{lent_front, parts_verdict}
 use Rattle.search.proofs.calls.judged.Goals as goal
 
 pub returns : goal.returns

@@ -1,7 +1,5 @@
 -- `search::calls::search` meets its contract: the call on the two parts of the record.
 use mathlib.Core.Path.{◌≡◌, ap, ◌∙◌}
-use mathlib.Core.List.{List}
-use Prim.Native.Nat.{ℕ}
 use Rattle.std.proofs.Common.{rules}
 use Rattle.given.specs.Told.{told}
 use Rattle.opening.specs.First.{whole_of}
