@@ -30,9 +30,9 @@ fn cell(table: &[u64], n: usize, list: &Listed, s: usize, t: usize) -> Vector
     let k = index(n, i, j);
     let seed = vector(table, k);
     if s == t {
-        return row(table, base, seed, &list.at, &list.turn, t + 1, list.count);
+        return row(table, base, seed, list, t + 1);
     }
-    row(table, base, seed, &list.at, &list.turn, t, list.count)
+    row(table, base, seed, list, t)
 }
 
 // What the listed unknown i, number s of the list, is multiplied by: its own coefficient, and what its products with the listed unknowns from i on are.

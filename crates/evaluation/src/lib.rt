@@ -14,7 +14,7 @@ ghost use Rattle.tables.specs.Answers.{evaluate_of, Tells};
 
 use checks::{Quadratic, check};
 use gray::Point;
-use listed::{nonzero_into, row, turned};
+use listed::{Listed, nonzero, row, turned};
 use positions::power;
 use refusals::{MOST_UNKNOWNS, Refusal};
 use tables::{index, vector};
@@ -34,39 +34,26 @@ pub fn digits(x: u64) -> [u64; MOST_UNKNOWNS]
 }
 
 // What the listed unknown i, number s of the list, is multiplied by: its own coefficient, and those of its products with the listed unknowns from i on.
-fn row_value(
-    table: &[u64],
-    n: usize,
-    at: &[usize; 21],
-    turn: &[u64; MOST_UNKNOWNS],
-    s: usize,
-    count: usize,
-) -> Vector
-    requires { (n ≤ most_unknowns) × (s < count) × (count ≤ most_unknowns) × (length table.now ≡ 2 * count_of n) × Rising n at.now count }
-    ensures { (m : ℕ) → (x : ℕ → ℕ) → Table n m table.now → Lists n x at.now turn.now count
-        → Holds m (λ e. row_of (poly_at n table.now e) n (get_or at.now s 0) x) result }
+fn row_value(table: &[u64], n: usize, list: &Listed, s: usize) -> Vector
+    requires { (n ≤ most_unknowns) × (s < list.now.count) × (list.now.count ≤ most_unknowns) × (length table.now ≡ 2 * count_of n) × Rising n list.now.at list.now.count }
+    ensures { (m : ℕ) → (x : ℕ → ℕ) → Table n m table.now → Lists n x list.now.at list.now.turn list.now.count
+        → Holds m (λ e. row_of (poly_at n table.now e) n (get_or list.now.at s 0) x) result }
 {
-    let i = at[s];
+    let i = list.at[s];
     let base = index(n, i, i) - i;
     let seed = vector(table, 1 + i);
-    row(table, base, seed, at, turn, s, count)
+    row(table, base, seed, list, s)
 }
 
 // The value at the listed unknowns of a point.
-fn value_of(
-    table: &[u64],
-    n: usize,
-    at: &[usize; 21],
-    turn: &[u64; MOST_UNKNOWNS],
-    count: usize,
-) -> Vector
-    requires { (n ≤ most_unknowns) × (count ≤ most_unknowns) × (length table.now ≡ 2 * count_of n) × Rising n at.now count }
-    ensures { (m : ℕ) → (x : ℕ → ℕ) → Table n m table.now → Lists n x at.now turn.now count
+fn value_of(table: &[u64], n: usize, list: &Listed) -> Vector
+    requires { (n ≤ most_unknowns) × (list.now.count ≤ most_unknowns) × (length table.now ≡ 2 * count_of n) × Rising n list.now.at list.now.count }
+    ensures { (m : ℕ) → (x : ℕ → ℕ) → Table n m table.now → Lists n x list.now.at list.now.turn list.now.count
         → Holds m (λ e. value_of (poly_at n table.now e) n x) result }
 {
     let mut v = vector(table, 0);
-    for s in 0..count {
-        v = add(v, turned(row_value(table, n, at, turn, s, count), turn[s]));
+    for s in 0..list.count {
+        v = add(v, turned(row_value(table, n, list, s), list.turn[s]));
     }
     v
 }
@@ -76,10 +63,7 @@ pub fn value_at(table: &[u64], n: usize, x: &[u64; MOST_UNKNOWNS]) -> Vector
     requires { (n ≤ most_unknowns) × (length table.now ≡ 2 * count_of n) }
     ensures { (m : ℕ) → Table n m table.now → result ≡ of_trits m (λ e. value_of (poly_at n table.now e) n (λ k. get_or x.now k 0)) }
 {
-    let mut at = [0usize; 21];
-    let mut turn = [0u64; MOST_UNKNOWNS];
-    let count = nonzero_into(n, x, &mut at, &mut turn);
-    value_of(table, n, &at, &turn, count)
+    value_of(table, n, &nonzero(n, x))
 }
 
 // The value of each equation at a point.

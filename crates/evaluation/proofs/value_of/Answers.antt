@@ -16,7 +16,7 @@ vector-v-requires c = let a = c.args in let q = c.requires in omega (arith, coun
 pub loop-s-init : goal.loop-s-init
 loop-s-init c =
     let a = c.args in let q = c.requires in
-    λ m x w g. row_begun m (λ e. (poly_at a.n a.table.now e).const) _ _ (λ e. first_begun a.n x a.at.now a.turn.now a.count g (λ k. row_of (poly_at a.n a.table.now e) a.n k x)) (rw c.vector-v.ensures (const_holds a.n m a.table.now w))
+    λ m x w g. row_begun m (λ e. (poly_at a.n a.table.now e).const) _ _ (λ e. first_begun a.n x a.list.now.at a.list.now.turn a.list.now.count g (λ k. row_of (poly_at a.n a.table.now e) a.n k x)) (rw c.vector-v.ensures (const_holds a.n m a.table.now w))
 
 pub loop-s-preserved : goal.loop-s-preserved
 loop-s-preserved c =
@@ -24,15 +24,15 @@ loop-s-preserved c =
     let l = c.loop-s in
     let b = c.loop-s-test.true in
     λ m x w g.
-    row_more a.n x a.at.now a.turn.now a.count g l.s b 0 (omega arith) m
+    row_more a.n x a.list.now.at a.list.now.turn a.list.now.count g l.s b 0 (omega arith) m
     (λ e. (poly_at a.n a.table.now e).const) (λ e k. row_of (poly_at a.n a.table.now e) a.n k x) l.v c.turned.result c.add-v.result (l.invariant m x w g)
-    (c.turned.ensures m (x (get_or a.at.now l.s 0)) _ (g.digit l.s b).0 (g.digit l.s b).1 (g.mask l.s b) (c.row_value.ensures m x w g)) c.add-v.ensures
+    (c.turned.ensures m (x (get_or a.list.now.at l.s 0)) _ (g.digit l.s b).0 (g.digit l.s b).1 (g.mask l.s b) (c.row_value.ensures m x w g)) c.add-v.ensures
 
 pub returns : goal.returns
 returns c =
     let a = c.args in
     let l = c.loop-s in
-    let e : l.s ≡ a.count = omega arith in
+    let e : l.s ≡ a.list.now.count = omega arith in
     λ m x w g.
-    let k : get_or a.at.now l.s 0 ≡ a.n = ap (λ (j : ℕ). get_or a.at.now j 0) e ∙ g.last in
+    let k : get_or a.list.now.at l.s 0 ≡ a.n = ap (λ (j : ℕ). get_or a.list.now.at j 0) e ∙ g.last in
     whole_sum m a.n (poly_at a.n a.table.now) x _ (rw k at (l.invariant m x w g))

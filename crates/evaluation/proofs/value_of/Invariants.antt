@@ -8,5 +8,5 @@ use Rattle.evaluation.specs.Parts.{row_of}
 use Rattle.evaluation.proofs.value_of.Given as goal
 
 abbrev pub invariant-loop-s : goal.invariant-loop-s
-invariant-loop-s l = (m : ℕ) → (x : ℕ → ℕ) → Table l.n m l.table → Lists l.n x l.at l.turn l.count
-    → Holds m (λ e. (poly_at l.n l.table e).const + sum (get_or l.at l.s 0 - 0) (λ d. row_of (poly_at l.n l.table e) l.n (0 + d) x * x (0 + d))) l.v
+invariant-loop-s l = (m : ℕ) → (x : ℕ → ℕ) → Table l.n m l.table → Lists l.n x l.list.at l.list.turn l.list.count
+    → Holds m (λ e. (poly_at l.n l.table e).const + sum (get_or l.list.at l.s 0 - 0) (λ d. row_of (poly_at l.n l.table e) l.n (0 + d) x * x (0 + d))) l.v

@@ -12,15 +12,15 @@ loop-t-preserved c =
     let l = c.loop-t in
     let b = c.loop-t-test.true in
     λ m n i x s h g o y z w.
-    let p = listed_rise n x a.at.now a.turn.now a.count g a.from l.t (omega arith) b in
-    row_more n x a.at.now a.turn.now a.count g l.t b i (omega arith) m s h l.v c.turned.result c.add-v.result (l.invariant m n i x s h g o y z w)
-    (c.turned.ensures m (x (get_or a.at.now l.t 0)) _ (g.digit l.t b).0 (g.digit l.t b).1 (g.mask l.t b) (rw c.vector.ensures (w l.t (omega arith) b))) c.add-v.ensures
+    let p = listed_rise n x a.list.now.at a.list.now.turn a.list.now.count g a.from l.t (omega arith) b in
+    row_more n x a.list.now.at a.list.now.turn a.list.now.count g l.t b i (omega arith) m s h l.v c.turned.result c.add-v.result (l.invariant m n i x s h g o y z w)
+    (c.turned.ensures m (x (get_or a.list.now.at l.t 0)) _ (g.digit l.t b).0 (g.digit l.t b).1 (g.mask l.t b) (rw c.vector.ensures (w l.t (omega arith) b))) c.add-v.ensures
 
 pub returns : goal.returns
 returns c =
     let a = c.args in
     let l = c.loop-t in
-    let e : l.t ≡ a.count = omega (arith, c.loop-t-test.false) in
+    let e : l.t ≡ a.list.now.count = omega (arith, c.loop-t-test.false) in
     λ m n i x s h g o y z w.
-    let k : get_or a.at.now l.t 0 ≡ n = ap (λ (j : ℕ). get_or a.at.now j 0) e ∙ g.last in
+    let k : get_or a.list.now.at l.t 0 ≡ n = ap (λ (j : ℕ). get_or a.list.now.at j 0) e ∙ g.last in
     rw k at (l.invariant m n i x s h g o y z w)

@@ -8,7 +8,7 @@ use Rattle.listed.specs.Lists.{Lists}
 use Rattle.listed.proofs.row.Given as goal
 
 abbrev pub invariant-loop-t : goal.invariant-loop-t
-invariant-loop-t l = (m n i : ℕ) → (x s : ℕ → ℕ) → (h : ℕ → ℕ → ℕ) → Lists n x l.at l.turn l.count → i ≤ get_or l.at l.from 0 → Holds m s l.initial.v
-    → ((e : ℕ) → sum (get_or l.at l.from 0 - i) (λ d. h e (i + d) * x (i + d)) ≡ 0)
-    → ((u : ℕ) → l.from ≤ u → u < l.count → Holds m (λ e. h e (get_or l.at u 0)) (entry l.table (l.base + get_or l.at u 0)))
-    → Holds m (λ e. s e + sum (get_or l.at l.t 0 - i) (λ d. h e (i + d) * x (i + d))) l.v
+invariant-loop-t l = (m n i : ℕ) → (x s : ℕ → ℕ) → (h : ℕ → ℕ → ℕ) → Lists n x l.list.at l.list.turn l.list.count → i ≤ get_or l.list.at l.from 0 → Holds m s l.initial.v
+    → ((e : ℕ) → sum (get_or l.list.at l.from 0 - i) (λ d. h e (i + d) * x (i + d)) ≡ 0)
+    → ((u : ℕ) → l.from ≤ u → u < l.list.count → Holds m (λ e. h e (get_or l.list.at u 0)) (entry l.table (l.base + get_or l.list.at u 0)))
+    → Holds m (λ e. s e + sum (get_or l.list.at l.t 0 - i) (λ d. h e (i + d) * x (i + d))) l.v
