@@ -6,7 +6,7 @@ ghost use Rattle.refusals.specs.Limits.{most_unknowns};
 ghost use Rattle.trits.specs.Trit.{Holds, of_trits};
 ghost use Rattle.gray.specs.Numbers.{digit};
 ghost use Rattle.polynomials.specs.Poly.{value_of};
-ghost use Rattle.listed.specs.Lists.{Lists, Rising};
+ghost use Rattle.listed.specs.Lists.{Lists, Rising, ListHolds};
 ghost use Rattle.tables.specs.Monomials.{count_of};
 ghost use Rattle.tables.specs.Words.{Table, poly_at};
 ghost use Rattle.evaluation.specs.Parts.{row_of};
@@ -14,11 +14,11 @@ ghost use Rattle.tables.specs.Answers.{evaluate_of, Tells};
 
 use checks::{Quadratic, check};
 use gray::Point;
-use listed::{Listed, nonzero, row, turned};
+use listed::{Listed, nonzero, row, summed};
 use positions::power;
 use refusals::{MOST_UNKNOWNS, Refusal};
 use tables::{index, vector};
-use trits::{Vector, add};
+use trits::Vector;
 
 // The 20 lowest digits of a point.
 pub fn digits(x: u64) -> [u64; MOST_UNKNOWNS]
@@ -36,8 +36,7 @@ pub fn digits(x: u64) -> [u64; MOST_UNKNOWNS]
 // What the listed unknown i, number s of the list, is multiplied by: its own coefficient, and those of its products with the listed unknowns from i on.
 fn row_value(table: &[u64], n: usize, list: &Listed, s: usize) -> Vector
     requires { (n ≤ most_unknowns) × (s < list.now.count) × (list.now.count ≤ most_unknowns) × (length table.now ≡ 2 * count_of n) × Rising n list.now.at list.now.count }
-    ensures { (m : ℕ) → (x : ℕ → ℕ) → Table n m table.now → Lists n x list.now.at list.now.turn list.now.count
-        → Holds m (λ e. row_of (poly_at n table.now e) n (get_or list.now.at s 0) x) result }
+    ensures { ListHolds n list.now (λ m. Table n m table.now) (λ x e. row_of (poly_at n table.now e) n (get_or list.now.at s 0) x) result }
 {
     let i = list.at[s];
     let base = index(n, i, i) - i;
@@ -51,11 +50,7 @@ fn value_of(table: &[u64], n: usize, list: &Listed) -> Vector
     ensures { (m : ℕ) → (x : ℕ → ℕ) → Table n m table.now → Lists n x list.now.at list.now.turn list.now.count
         → Holds m (λ e. value_of (poly_at n table.now e) n x) result }
 {
-    let mut v = vector(table, 0);
-    for s in 0..list.count {
-        v = add(v, turned(row_value(table, n, list, s), list.turn[s]));
-    }
-    v
+    summed(list, 0, vector(table, 0), |s| row_value(table, n, list, s))
 }
 
 // The value at the digits x of a legal coefficient table, which is not judged again.

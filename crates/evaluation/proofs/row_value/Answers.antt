@@ -5,6 +5,7 @@ use lib.ListN.{get_or}
 use Rattle.listed.proofs.ListLaw.{none_begun, pair_order}
 use Rattle.tables.specs.Words.{poly_at}
 use Rattle.tables.proofs.IndexLaw.{count_is, count_le}
+use Rattle.listed.specs.Lists.{ListHolds}
 use Rattle.evaluation.proofs.EvaluateLaw.{lin_holds, index_ge, row_room, row_holds, row_sum}
 use Rattle.evaluation.proofs.row_value.Goals as goal
 
@@ -19,6 +20,7 @@ row-requires c =
     let a = c.args in let q = c.requires in record { from_le_count = (omega (arith, q.1), q.2, omega (arith, c.index.ensures.1, count_le a.n q.0)); by_index = row_room a.n _ _ _ a.list.now.count a.s a.list.now.at q.4 q.0 q.1 c.index.ensures.0 refl q.3 }
 
 pub returns : goal.returns
+unfolding ListHolds
 returns c =
     let a = c.args in let q = c.requires in
     let k = c.index in
