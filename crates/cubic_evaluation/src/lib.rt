@@ -38,7 +38,7 @@ pub fn value_at(table: &[u64], n: usize, x: &[u64; MOST_UNKNOWNS]) -> Vector
     value_of(table, n, &nonzero(n, x))
 }
 
-// The value of each equation at a point.
+// The value of each equation at a point. Twin of evaluation::evaluate: shared, its value would be a closure with a contract longer than these steps.
 pub fn evaluate(n: u64, m: u64, coefficients: &[u64], x: Point) -> Result<Vector, Refusal>
     ensures { (result ≡ cubic_evaluate n m coefficients.now x.0) × CubicTells n m coefficients.now x.0 result }
 {

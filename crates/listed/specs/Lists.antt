@@ -23,6 +23,6 @@ pub record Rising (n : ℕ) (at : List ℕ) (count : ℕ) : Type 0 where
   pub below : (t : ℕ) → t < count → get_or at t 0 < n
   pub rise : (t u : ℕ) → t < u → u < count → get_or at t 0 < get_or at u 0
 
--- v is what h says, modulo 3: whatever m equations the table has (Has m) and whatever point x of n unknowns the list is of
+-- v holds h x in each of m equations, however many the table has (Has m), at each point x of n unknowns that the list is of
 unfoldable pub ListHolds : ℕ → Listed → (ℕ → Type 0) → ((ℕ → ℕ) → ℕ → ℕ) → Vector → Type 0
 ListHolds n list Has h v = (m : ℕ) → (x : ℕ → ℕ) → Has m → Lists n x list.at list.turn list.count → Holds m (h x) v

@@ -1,5 +1,5 @@
 // The unknowns of a point that are not 0, listed once, and sums over their products alone.
-// Contracts cite specs/Lists (what is listed).
+// Contracts cite specs/Lists (what is listed, and what holds at a list's point).
 #![tactic(auto)]
 
 ghost use Rattle.std.specs.Prelude.{◌≡◌, ℕ, ◌+◌, ◌-◌, ◌*◌, ◌/◌, ◌%◌, ◌^◌, ◌<◌, ◌≤◌, length, get_or};
@@ -51,7 +51,7 @@ pub fn turned(v: Vector, turn: u64) -> Vector
     }
 }
 
-// A seed, and a term for each listed unknown from number `from` on, each times its unknown: that of unknown number t is term(t).
+// A seed, and a term for each listed unknown from number `from` on, each times its unknown: that of number t of the list is term(t).
 pub fn summed<F: Fn(usize) -> Vector>(list: &Listed, from: usize, seed: Vector, term: F) -> Vector
     requires from_le_count { (from ≤ list.now.count) × (list.now.count ≤ most_unknowns) }
     requires by_number { (t : ℕ) → from ≤ t → t < list.now.count → F.pre term t }

@@ -1,6 +1,5 @@
 -- `evaluation::value_of` meets its contract: the terms are the rows of the listed unknowns.
 use Rattle.std.proofs.Common.{rules}
-use Prim.Native.Nat.{ℕ}
 use native.Mathlib.Omega.{arith}
 use lib.ListN.{get_or}
 use Rattle.tables.specs.Words.{Table, poly_at}
