@@ -35,7 +35,8 @@ pub fn value_at(table: &[u64], n: usize, x: &[u64; MOST_UNKNOWNS]) -> Vector
     requires { (n ≤ most_unknowns) × (length table.now ≡ 2 * cubic_count n) }
     ensures { (m : ℕ) → CubicTable n m table.now → result ≡ of_trits m (λ e. cubic_of (cubic_at n table.now e) n (λ k. get_or x.now k 0)) }
 {
-    value_of(table, n, &nonzero(n, x))
+    let list = nonzero(n, x);
+    value_of(table, n, &list)
 }
 
 // The value of each equation at a point. Twin of evaluation::evaluate: shared, its value would be a closure with a contract longer than these steps.

@@ -21,24 +21,37 @@ pub struct Listed {
     pub count: usize,
 }
 
-// Lists the unknowns below n that are not 0 modulo 3: their numbers rise, with n after the last; for each a word that is all ones where the unknown is 2;
-// and how many. Nothing branches on a digit: no digit foretells the next.
+// Lists the unknowns below n that are not 0 modulo 3: their numbers rise, with n after the last; for each a word that is all ones where the unknown is 2.
+// Answers how many. Nothing branches on a digit: no digit foretells the next.
+pub fn nonzero_into(
+    n: usize,
+    x: &[u64; MOST_UNKNOWNS],
+    at: &mut [usize; 21],
+    turn: &mut [u64; MOST_UNKNOWNS],
+) -> usize
+    requires { (n ≤ most_unknowns) × (length at.old ≡ 21) × (length turn.old ≡ most_unknowns) }
+    ensures { Lists n (λ k. get_or x.now k 0 % 3) at.new turn.new result × (result ≤ n) }
+{
+    at[0] = 0;
+    let mut count = 0;
+    for k in 0..n {
+        let d = x[k] % 3;
+        turn[count] = d / 2 * u64::MAX;
+        count += ((d + 1) / 2) as usize;
+        at[count] = k + 1;
+    }
+    count
+}
+
+// The same list by value.
 pub fn nonzero(n: usize, x: &[u64; MOST_UNKNOWNS]) -> Listed
     requires { n ≤ most_unknowns }
     ensures { Lists n (λ k. get_or x.now k 0 % 3) result.at result.turn result.count × (result.count ≤ n) }
 {
-    let mut list = Listed {
-        at: [0; 21],
-        turn: [0; MOST_UNKNOWNS],
-        count: 0,
-    };
-    for k in 0..n {
-        let d = x[k] % 3;
-        list.turn[list.count] = d / 2 * u64::MAX;
-        list.count += ((d + 1) / 2) as usize;
-        list.at[list.count] = k + 1;
-    }
-    list
+    let mut at = [0usize; 21];
+    let mut turn = [0u64; MOST_UNKNOWNS];
+    let count = nonzero_into(n, x, &mut at, &mut turn);
+    Listed { at, turn, count }
 }
 
 // v times an unknown that is 1 or 2: negated where turn is all ones.
