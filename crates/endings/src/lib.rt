@@ -7,7 +7,7 @@ ghost use Rattle.endings.specs.Endings.{Concludes, Delivers};
 use streams::Output;
 
 // How many bytes are to be told, if any are, how many bytes of the output were taken, and whether it was well at its end
-// (`streams::finish`).
+// (`streams::finish`): that is no Option's flag, for it is said where nothing was to be told, too (specs/Endings).
 #[derive(Drop)]
 pub struct Ending {
     pub told: Option<usize>,

@@ -116,6 +116,7 @@ pub fn search_parts(
     ensures { (outcome_with table.entry.degree result seconds.new ≡ outcome_in (told table.entry) (whole_of table.entry.degree f seconds.old) budget list.old)
         × (list.new ≡ list_in (told table.entry) (whole_of table.entry.degree f seconds.old) budget list.old) }
 {
+    // A refusal goes with the record as it was, and so not by `?`.
     match judging::judged(table, f, seconds, budget, list.len() / 8) {
         Err(x) => Moved {
             answer: Err(x),

@@ -7,7 +7,7 @@ use std::fs;
 use std::io::IsTerminal;
 use std::os::unix::fs::FileTypeExt;
 
-// Whether progress is shown, and whether standard output is a terminal too.
+// Whether progress is shown, and whether standard output is a terminal too: two flags, and no value beside them.
 #[derive(Clone, Copy)]
 pub struct Screen {
     pub progress: bool,

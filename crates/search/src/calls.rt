@@ -40,6 +40,7 @@ fn call(table: Told, f: First, seconds: &mut [u64], budget: u64, list: &mut [u64
     ensures { (outcome_with table.entry.degree result seconds.new ≡ outcome_of (told table.entry) (whole_of table.entry.degree f seconds.old) budget list.old)
         × (list.new ≡ list_left (told table.entry) (whole_of table.entry.degree f seconds.old) budget list.old) }
 {
+    // A refusal goes with the record as it was, and so not by `?`.
     match judging::judged(table, f, seconds, budget, list.len()) {
         Err(x) => Moved {
             answer: Err(x),

@@ -23,7 +23,7 @@ pub const READER_GONE: u8 = 141;
 // So often a call is tried again, 2^62: no machine lasts so long, and so each function ends.
 const TRIES: u64 = 4611686018427387904;
 
-// Standard output, and whether a write found that nobody reads it any more.
+// Standard output, and whether a write found that nobody reads it any more: a flag, for the error itself goes to who called.
 #[derive(Drop)]
 pub struct Output {
     to: Stdout,
