@@ -13,7 +13,7 @@ use gray::Point;
 use refusals::Refusal;
 use trits::Vector;
 
-// Signed rows into a table of words.
+// Signed rows into a table of words. The table is written: `Told` has words that are read.
 pub fn pack(degree: Degree, n: u64, m: u64, rows: &[i8], table: &mut [u64]) -> Result<(), Refusal>
     ensures answer { result ≡ packing degree n m rows.now table.old }
     ensures left { table.new ≡ packed_into degree n m rows.now table.old }

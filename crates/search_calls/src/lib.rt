@@ -97,6 +97,7 @@ fn first_in(degree: Degree, record: &[u8]) -> First
 }
 
 // The search of a degree over bytes: the table's words are read into `words` first, and those of the record's second slots into `seconds`.
+// The table is bytes here: what is told beside it becomes a `Told` with the words.
 fn over_words(
     degree: Degree,
     n: u64,
