@@ -15,11 +15,11 @@ use cubic_checks::check;
 use cubic_planes::plane;
 use evaluation::digits;
 use gray::Point;
-use listed::{Listed, nonzero, turned};
+use listed::{Listed, nonzero, summed};
 use positions::power;
 use refusals::{MOST_UNKNOWNS, Refusal};
 use tables::vector;
-use trits::{Vector, add};
+use trits::Vector;
 
 // The value at the listed unknowns of a point.
 fn value_of(table: &[u64], n: usize, list: &Listed) -> Vector
@@ -27,12 +27,7 @@ fn value_of(table: &[u64], n: usize, list: &Listed) -> Vector
     ensures { (m : ℕ) → (x : ℕ → ℕ) → CubicTable n m table.now → Lists n x list.now.at list.now.turn list.now.count
         → Holds m (λ e. cubic_of (cubic_at n table.now e) n x) result }
 {
-    let mut v = vector(table, 0);
-    for s in 0..list.count {
-        let w = turned(plane(table, n, list, s), list.turn[s]);
-        v = add(v, w);
-    }
-    v
+    summed(list, 0, vector(table, 0), |s| plane(table, n, list, s))
 }
 
 // The value at the digits x of a legal cubic coefficient table, which is not judged again.
@@ -44,7 +39,7 @@ pub fn value_at(table: &[u64], n: usize, x: &[u64; MOST_UNKNOWNS]) -> Vector
     value_of(table, n, &list)
 }
 
-// The value of each equation at a point.
+// The value of each equation at a point. Twin of evaluation::evaluate: shared, its value would be a closure with a contract longer than these steps.
 pub fn evaluate(n: u64, m: u64, coefficients: &[u64], x: Point) -> Result<Vector, Refusal>
     ensures { (result ≡ cubic_evaluate n m coefficients.now x.0) × CubicTells n m coefficients.now x.0 result }
 {
@@ -52,6 +47,5 @@ pub fn evaluate(n: u64, m: u64, coefficients: &[u64], x: Point) -> Result<Vector
     if x.0 >= power(n) {
         return Err(Refusal::Range);
     }
-    let d = digits(x.0);
-    Ok(value_at(coefficients, n as usize, &d))
+    Ok(value_at(coefficients, n as usize, &digits(x.0)))
 }

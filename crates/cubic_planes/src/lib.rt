@@ -4,24 +4,22 @@
 
 ghost use Rattle.std.specs.Prelude.{◌≡◌, ℕ, ◌*◌, ◌<◌, ◌≤◌, length, get_or};
 ghost use Rattle.refusals.specs.Limits.{most_unknowns};
-ghost use Rattle.trits.specs.Trit.{Holds};
-ghost use Rattle.listed.specs.Lists.{Lists, Rising};
+ghost use Rattle.listed.specs.Lists.{ListHolds, Rising};
 ghost use Rattle.cubic_tables.specs.Order.{cubic_count};
 ghost use Rattle.cubic_tables.specs.Words.{CubicTable, cubic_at};
 ghost use Rattle.cubic_planes.specs.Parts.{cell_sum, plane_sum};
 
 use cubic_tables::key;
-use listed::{Listed, row, turned};
+use listed::{Listed, row, summed};
 use refusals::MOST_UNKNOWNS;
 use tables::{index, vector};
-use trits::{Vector, add};
+use trits::Vector;
 
 // What the product of the listed unknowns i and j, number s and t of the list, is multiplied by: its own coefficient, and those of its products with
 // the listed unknowns from j on. There is none of i, i and i.
 fn cell(table: &[u64], n: usize, list: &Listed, s: usize, t: usize) -> Vector
     requires { (n ≤ most_unknowns) × (s ≤ t) × (t < list.now.count) × (list.now.count ≤ most_unknowns) × (length table.now ≡ 2 * cubic_count n) × Rising n list.now.at list.now.count }
-    ensures { (m : ℕ) → (x : ℕ → ℕ) → CubicTable n m table.now → Lists n x list.now.at list.now.turn list.now.count
-        → Holds m (λ e. cell_sum (cubic_at n table.now e) n (get_or list.now.at s 0) (get_or list.now.at t 0) x) result }
+    ensures { ListHolds n list.now (λ m. CubicTable n m table.now) (λ x e. cell_sum (cubic_at n table.now e) n (get_or list.now.at s 0) (get_or list.now.at t 0) x) result }
 {
     let i = list.at[s];
     let j = list.at[t];
@@ -30,22 +28,21 @@ fn cell(table: &[u64], n: usize, list: &Listed, s: usize, t: usize) -> Vector
     let k = index(n, i, j);
     let seed = vector(table, k);
     if s == t {
-        return row(table, base, seed, &list.at, &list.turn, t + 1, list.count);
+        return row(table, base, seed, list, t + 1);
     }
-    row(table, base, seed, &list.at, &list.turn, t, list.count)
+    row(table, base, seed, list, t)
 }
 
 // What the listed unknown i, number s of the list, is multiplied by: its own coefficient, and what its products with the listed unknowns from i on are.
 pub fn plane(table: &[u64], n: usize, list: &Listed, s: usize) -> Vector
     requires { (n ≤ most_unknowns) × (s < list.now.count) × (list.now.count ≤ most_unknowns) × (length table.now ≡ 2 * cubic_count n) × Rising n list.now.at list.now.count }
-    ensures { (m : ℕ) → (x : ℕ → ℕ) → CubicTable n m table.now → Lists n x list.now.at list.now.turn list.now.count
-        → Holds m (λ e. plane_sum (cubic_at n table.now e) n (get_or list.now.at s 0) x) result }
+    ensures { ListHolds n list.now (λ m. CubicTable n m table.now) (λ x e. plane_sum (cubic_at n table.now e) n (get_or list.now.at s 0) x) result }
 {
     let i = list.at[s];
-    let mut v = vector(table, 1 + i);
-    for t in s..list.count {
-        let w = turned(cell(table, n, list, s, t), list.turn[t]);
-        v = add(v, w);
-    }
-    v
+    summed(
+        list,
+        s,
+        vector(table, 1 + i),
+        |t| cell(table, n, list, s, t),
+    )
 }

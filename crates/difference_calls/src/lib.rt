@@ -6,13 +6,14 @@ ghost use Rattle.std.specs.Prelude.{◌≡◌};
 ghost use Rattle.refusals.specs.Refusal.{code_of};
 ghost use Rattle.table_calls.specs.Call.{copy_call, differences_left, coefficients_left};
 
+use given::Told;
+
 // The table of differences of a coefficient table.
 pub fn differences(n: u64, m: u64, coefficients: &[u64], table: &mut [u64]) -> u64
     ensures { (result ≡ code_of (copy_call n m coefficients.now table.old))
         × (table.new ≡ differences_left n m coefficients.now table.old) }
 {
-    let degree = given::degree_of(n, coefficients.len());
-    let taken = operations::differences(degree, n, m, coefficients, table);
+    let taken = operations::differences(Told::by_length(n, m, coefficients), table);
     refusals::code(taken)
 }
 
@@ -21,7 +22,6 @@ pub fn coefficients(n: u64, m: u64, table: &[u64], coefficients: &mut [u64]) -> 
     ensures { (result ≡ code_of (copy_call n m table.now coefficients.old))
         × (coefficients.new ≡ coefficients_left n m table.now coefficients.old) }
 {
-    let degree = given::degree_of(n, table.len());
-    let restored = operations::coefficients(degree, n, m, table, coefficients);
+    let restored = operations::coefficients(Told::by_length(n, m, table), coefficients);
     refusals::code(restored)
 }

@@ -6,7 +6,7 @@ ghost use Rattle.refusals.specs.Limits.{most_unknowns};
 ghost use Rattle.trits.specs.Trit.{Holds, of_trits};
 ghost use Rattle.gray.specs.Numbers.{digit};
 ghost use Rattle.polynomials.specs.Poly.{value_of};
-ghost use Rattle.listed.specs.Lists.{Lists, Rising};
+ghost use Rattle.listed.specs.Lists.{Lists, Rising, ListHolds};
 ghost use Rattle.tables.specs.Monomials.{count_of};
 ghost use Rattle.tables.specs.Words.{Table, poly_at};
 ghost use Rattle.evaluation.specs.Parts.{row_of};
@@ -14,11 +14,11 @@ ghost use Rattle.tables.specs.Answers.{evaluate_of, Tells};
 
 use checks::{Quadratic, check};
 use gray::Point;
-use listed::{nonzero_into, row, turned};
+use listed::{Listed, nonzero_into, row, summed};
 use positions::power;
 use refusals::{MOST_UNKNOWNS, Refusal};
 use tables::{index, vector};
-use trits::{Vector, add};
+use trits::Vector;
 
 // The 20 lowest digits of a point.
 pub fn digits(x: u64) -> [u64; MOST_UNKNOWNS]
@@ -34,41 +34,23 @@ pub fn digits(x: u64) -> [u64; MOST_UNKNOWNS]
 }
 
 // What the listed unknown i, number s of the list, is multiplied by: its own coefficient, and those of its products with the listed unknowns from i on.
-fn row_value(
-    table: &[u64],
-    n: usize,
-    at: &[usize; 21],
-    turn: &[u64; MOST_UNKNOWNS],
-    s: usize,
-    count: usize,
-) -> Vector
-    requires { (n ≤ most_unknowns) × (s < count) × (count ≤ most_unknowns) × (length table.now ≡ 2 * count_of n) × Rising n at.now count }
-    ensures { (m : ℕ) → (x : ℕ → ℕ) → Table n m table.now → Lists n x at.now turn.now count
-        → Holds m (λ e. row_of (poly_at n table.now e) n (get_or at.now s 0) x) result }
+fn row_value(table: &[u64], n: usize, list: &Listed, s: usize) -> Vector
+    requires { (n ≤ most_unknowns) × (s < list.now.count) × (list.now.count ≤ most_unknowns) × (length table.now ≡ 2 * count_of n) × Rising n list.now.at list.now.count }
+    ensures { ListHolds n list.now (λ m. Table n m table.now) (λ x e. row_of (poly_at n table.now e) n (get_or list.now.at s 0) x) result }
 {
-    let i = at[s];
+    let i = list.at[s];
     let base = index(n, i, i) - i;
     let seed = vector(table, 1 + i);
-    row(table, base, seed, at, turn, s, count)
+    row(table, base, seed, list, s)
 }
 
 // The value at the listed unknowns of a point.
-fn value_of(
-    table: &[u64],
-    n: usize,
-    at: &[usize; 21],
-    turn: &[u64; MOST_UNKNOWNS],
-    count: usize,
-) -> Vector
-    requires { (n ≤ most_unknowns) × (count ≤ most_unknowns) × (length table.now ≡ 2 * count_of n) × Rising n at.now count }
-    ensures { (m : ℕ) → (x : ℕ → ℕ) → Table n m table.now → Lists n x at.now turn.now count
+fn value_of(table: &[u64], n: usize, list: &Listed) -> Vector
+    requires { (n ≤ most_unknowns) × (list.now.count ≤ most_unknowns) × (length table.now ≡ 2 * count_of n) × Rising n list.now.at list.now.count }
+    ensures { (m : ℕ) → (x : ℕ → ℕ) → Table n m table.now → Lists n x list.now.at list.now.turn list.now.count
         → Holds m (λ e. value_of (poly_at n table.now e) n x) result }
 {
-    let mut v = vector(table, 0);
-    for s in 0..count {
-        v = add(v, turned(row_value(table, n, at, turn, s, count), turn[s]));
-    }
-    v
+    summed(list, 0, vector(table, 0), |s| row_value(table, n, list, s))
 }
 
 // The value at the digits x of a legal coefficient table, which is not judged again.
@@ -76,13 +58,17 @@ pub fn value_at(table: &[u64], n: usize, x: &[u64; MOST_UNKNOWNS]) -> Vector
     requires { (n ≤ most_unknowns) × (length table.now ≡ 2 * count_of n) }
     ensures { (m : ℕ) → Table n m table.now → result ≡ of_trits m (λ e. value_of (poly_at n table.now e) n (λ k. get_or x.now k 0)) }
 {
-    let mut at = [0usize; 21];
-    let mut turn = [0u64; MOST_UNKNOWNS];
-    let count = nonzero_into(n, x, &mut at, &mut turn);
-    value_of(table, n, &at, &turn, count)
+    // Filled in place: nonzero's list, by value, is copied, and degree two is 3.8 percent slower.
+    let mut list = Listed {
+        at: [0; 21],
+        turn: [0; MOST_UNKNOWNS],
+        count: 0,
+    };
+    list.count = nonzero_into(n, x, &mut list.at, &mut list.turn);
+    value_of(table, n, &list)
 }
 
-// The value of each equation at a point.
+// The value of each equation at a point. Twin of cubic_evaluation::evaluate: shared, its value would be a closure with a contract longer than these steps.
 pub fn evaluate(n: u64, m: u64, coefficients: &[u64], x: Point) -> Result<Vector, Refusal>
     ensures { (result ≡ evaluate_of n m coefficients.now x.0) × Tells n m coefficients.now x.0 result }
 {

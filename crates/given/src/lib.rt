@@ -4,7 +4,8 @@
 
 ghost use Rattle.std.specs.Prelude.{◌≡◌};
 ghost use Rattle.refusals.specs.Refusal.{code_of, done};
-ghost use Rattle.given.specs.Given.{table_with, table_verdict, degree_told};
+ghost use Rattle.given.specs.Given.{table_verdict, degree_told, table_told};
+ghost use Rattle.given.specs.Told.{told};
 
 use checks::Quadratic;
 use refusals::{MOST_UNKNOWNS, Refusal};
@@ -16,14 +17,23 @@ pub enum Degree {
     Three,
 }
 
+// The words of a table, and what is told beside them: the degree, n unknowns and m equations.
+#[derive(Clone, Copy)]
+pub struct Told<'a> {
+    pub degree: Degree,
+    pub n: u64,
+    pub m: u64,
+    pub words: &'a [u64],
+}
+
 // A table by itself: its sizes, its length, its pairs.
-pub fn check(degree: Degree, n: u64, m: u64, table: &[u64]) -> Result<(), Refusal>
-    ensures answer { result ≡ table_verdict (table_with degree n m table.now) done }
-    ensures number { code_of result ≡ code_of (table_verdict (table_with degree n m table.now) done) }
+pub fn check(table: Told) -> Result<(), Refusal>
+    ensures answer { result ≡ table_verdict (told table.entry) done }
+    ensures number { code_of result ≡ code_of (table_verdict (told table.entry) done) }
 {
-    match degree {
-        Degree::Two => checks::check::<Quadratic>(n, m, table),
-        Degree::Three => cubic_checks::check(n, m, table),
+    match table.degree {
+        Degree::Two => checks::check::<Quadratic>(table.n, table.m, table.words),
+        Degree::Three => cubic_checks::check(table.n, table.m, table.words),
     }
 }
 
@@ -41,4 +51,18 @@ pub fn degree_of(n: u64, words: usize) -> Degree
         return Degree::Three;
     }
     Degree::Two
+}
+
+impl<'a> Told<'a> {
+    // The table of these words, of the degree that their number tells, where none is told beside it.
+    pub fn by_length(n: u64, m: u64, words: &'a [u64]) -> Self
+        ensures { told result ≡ table_told n m words.now }
+    {
+        Told {
+            degree: degree_of(n, words.len()),
+            n,
+            m,
+            words,
+        }
+    }
 }

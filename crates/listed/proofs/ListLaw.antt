@@ -17,7 +17,8 @@ use Rattle.trits.specs.Trit.{Holds}
 use Rattle.trits.specs.Words.{Added, negate_of}
 use Rattle.trits.proofs.SumLaw.{negated}
 use Rattle.trits.proofs.HoldLaw.{holds_ext, holds_add, holds_negate}
-use Rattle.listed.specs.Lists.{Lists, Rising, ones}
+use Rattle.listed.specs.declared.Listed.{Listed}
+use Rattle.listed.specs.Lists.{ListHolds, Lists, Rising, ones}
 
 -- ---- listing
 -- every listed unknown is below n
@@ -238,3 +239,12 @@ pair_order n at c s t r l m =
     by_cases (ℕ_discrete s t)
     (λ (e : s ≡ t). let k : get_or at s 0 ≡ get_or at t 0 = ap (λ (y : ℕ). get_or at y 0) e in (omega arith, r.below t m))
     (λ e. let k = r.rise s t (omega arith) m in (omega arith, r.below t m))
+
+-- ---- what a value says of a list
+pub list_holds_same : (n : ℕ) (list : Listed) (Has : ℕ → Type 0) (h : (ℕ → ℕ) → ℕ → ℕ) (v z : Vector) → v ≡ z → ListHolds n list Has h z → ListHolds n list Has h v
+list_holds_same n list Has h v z e t = rw e t
+
+pub list_holds : (n : ℕ) (list : Listed) (Has : ℕ → Type 0) (h : (ℕ → ℕ) → ℕ → ℕ) (v : Vector) → ListHolds n list Has h v
+    → (m : ℕ) (x : ℕ → ℕ) → Has m → Lists n x list.at list.turn list.count → Holds m (h x) v
+unfolding ListHolds
+list_holds n list Has h v t = t

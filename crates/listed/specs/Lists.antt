@@ -1,5 +1,8 @@
 -- The unknowns of a point that are not 0, in a list.
 use Rattle.std.specs.Prelude.{◌≡◌, List, ℕ, suc, ◌*◌, ◌/◌, ◌<◌, ◌≤◌, get_or}
+use Rattle.trits.specs.Trit.{Holds}
+use Rattle.trits.specs.declared.Vector.{Vector}
+use Rattle.listed.specs.declared.Listed.{Listed}
 
 -- a word of ones
 abbrev pub ones : ℕ
@@ -19,3 +22,7 @@ pub record Lists (n : ℕ) (x : ℕ → ℕ) (at turn : List ℕ) (count : ℕ) 
 pub record Rising (n : ℕ) (at : List ℕ) (count : ℕ) : Type 0 where
   pub below : (t : ℕ) → t < count → get_or at t 0 < n
   pub rise : (t u : ℕ) → t < u → u < count → get_or at t 0 < get_or at u 0
+
+-- v holds h x in each of m equations, however many the table has (Has m), at each point x of n unknowns that the list is of
+unfoldable pub ListHolds : ℕ → Listed → (ℕ → Type 0) → ((ℕ → ℕ) → ℕ → ℕ) → Vector → Type 0
+ListHolds n list Has h v = (m : ℕ) → (x : ℕ → ℕ) → Has m → Lists n x list.at list.turn list.count → Holds m (h x) v

@@ -1,5 +1,5 @@
 // The unknowns of a point that are not 0, listed once, and sums over their products alone.
-// Contracts cite specs/Lists (what is listed).
+// Contracts cite specs/Lists (what is listed, and what holds at a list's point).
 #![tactic(auto)]
 
 ghost use Rattle.std.specs.Prelude.{◌≡◌, ℕ, ◌+◌, ◌-◌, ◌*◌, ◌/◌, ◌%◌, ◌^◌, ◌<◌, ◌≤◌, length, get_or};
@@ -64,26 +64,30 @@ pub fn turned(v: Vector, turn: u64) -> Vector
     }
 }
 
-// A seed, and the entries that belong to the listed unknowns from number `from` on, each times its unknown: that of unknown k is entry base + k.
-pub fn row(
-    table: &[u64],
-    base: usize,
-    seed: Vector,
-    at: &[usize; 21],
-    turn: &[u64; MOST_UNKNOWNS],
-    from: usize,
-    count: usize,
-) -> Vector
-    requires from_le_count { (from ≤ count) × (count ≤ most_unknowns) × (base < 2 ^ 32) }
-    requires by_index { (t : ℕ) → from ≤ t → t < count → (get_or at.now t 0 < 2 ^ 32) × (2 * (base + get_or at.now t 0) + 1 < length table.now) }
-    ensures { (m n i : ℕ) → (x s : ℕ → ℕ) → (h : ℕ → ℕ → ℕ) → Lists n x at.now turn.now count → i ≤ get_or at.now from 0 → Holds m s seed
-        → ((e : ℕ) → sum (get_or at.now from 0 - i) (λ d. h e (i + d) * x (i + d)) ≡ 0)
-        → ((t : ℕ) → from ≤ t → t < count → Holds m (λ e. h e (get_or at.now t 0)) (entry table.now (base + get_or at.now t 0)))
+// A seed, and a term for each listed unknown from number `from` on, each times its unknown: that of number t of the list is term(t).
+pub fn summed<F: Fn(usize) -> Vector>(list: &Listed, from: usize, seed: Vector, term: F) -> Vector
+    requires from_le_count { (from ≤ list.now.count) × (list.now.count ≤ most_unknowns) }
+    requires by_number { (t : ℕ) → from ≤ t → t < list.now.count → F.pre term t }
+    ensures { (m n i : ℕ) → (x s : ℕ → ℕ) → (h : ℕ → ℕ → ℕ) → Lists n x list.now.at list.now.turn list.now.count → i ≤ get_or list.now.at from 0 → Holds m s seed
+        → ((e : ℕ) → sum (get_or list.now.at from 0 - i) (λ d. h e (i + d) * x (i + d)) ≡ 0)
+        → ((t : ℕ) (v : _) → from ≤ t → t < list.now.count → F.post term t v → Holds m (λ e. h e (get_or list.now.at t 0)) v)
         → Holds m (λ e. s e + sum (n - i) (λ d. h e (i + d) * x (i + d))) result }
 {
     let mut v = seed;
-    for t in from..count {
-        v = add(v, turned(vector(table, base + at[t]), turn[t]));
+    for t in from..list.count {
+        v = add(v, turned(term(t), list.turn[t]));
     }
     v
+}
+
+// A seed, and the entries that belong to the listed unknowns from number `from` on, each times its unknown: that of unknown k is entry base + k.
+pub fn row(table: &[u64], base: usize, seed: Vector, list: &Listed, from: usize) -> Vector
+    requires from_le_count { (from ≤ list.now.count) × (list.now.count ≤ most_unknowns) × (base < 2 ^ 32) }
+    requires by_index { (t : ℕ) → from ≤ t → t < list.now.count → (get_or list.now.at t 0 < 2 ^ 32) × (2 * (base + get_or list.now.at t 0) + 1 < length table.now) }
+    ensures { (m n i : ℕ) → (x s : ℕ → ℕ) → (h : ℕ → ℕ → ℕ) → Lists n x list.now.at list.now.turn list.now.count → i ≤ get_or list.now.at from 0 → Holds m s seed
+        → ((e : ℕ) → sum (get_or list.now.at from 0 - i) (λ d. h e (i + d) * x (i + d)) ≡ 0)
+        → ((t : ℕ) → from ≤ t → t < list.now.count → Holds m (λ e. h e (get_or list.now.at t 0)) (entry table.now (base + get_or list.now.at t 0)))
+        → Holds m (λ e. s e + sum (n - i) (λ d. h e (i + d) * x (i + d))) result }
+{
+    summed(list, from, seed, |t| vector(table, base + list.at[t]))
 }

@@ -6,18 +6,18 @@
 
 ghost use Rattle.std.specs.Prelude.{◌≡◌, true, ◌-◌, ◌*◌, ◌/◌, ◌<◌, ◌≤◌, min, length};
 ghost use Rattle.codec.specs.Codec.{bytes_from, pasted};
-ghost use Rattle.given.specs.Given.{table_with, Checked};
+ghost use Rattle.given.specs.Given.{Checked};
+ghost use Rattle.given.specs.Told.{told};
 ghost use Rattle.opening.specs.First.{lent_words, whole_of};
 ghost use Rattle.outcomes.specs.Search.{fits, ran_of};
 ghost use Rattle.outcomes.specs.First.{outcome_with};
 ghost use Rattle.lists.specs.Listed.{found_in, outcome_in, list_in};
 ghost use Rattle.lists.specs.Pieces.{did_of, GoesOn};
 
-use given::Degree;
+use given::Told;
 use opening::{First, Record};
 use outcomes::{Moved, Outcome};
 use refusals::{PIECE_ENTRIES, Refusal};
-use search::{first_for, joined, lent_words};
 use walks::{Report, Stop};
 
 // What a call did; where it was refused, nothing.
@@ -41,10 +41,7 @@ fn goes_on(place: u64, end: u64, left: u64, room: usize) -> bool
 
 // One piece: its points go by way of the words into the list, from word number `at` on.
 fn part(
-    degree: Degree,
-    n: u64,
-    m: u64,
-    table: &[u64],
+    table: Told,
     f: First,
     seconds: &mut [u64],
     left: u64,
@@ -52,13 +49,13 @@ fn part(
     list: &mut [u8],
     at: usize,
 ) -> Moved
-    requires { Checked (table_with degree n m table.now) × (fits (table_with degree n m table.now) (whole_of degree f seconds.old) ≡ true) × (at ≤ length list.old / 8) × (length seconds.old ≡ lent_words degree) }
-    ensures { (outcome_with degree result seconds.new ≡ ran_of (table_with degree n m table.now) f.place.0 left (min (length words.old) (length list.old / 8 - at)))
-        × (list.new ≡ pasted list.old (8 * at) (bytes_from (found_in (table_with degree n m table.now) f.place.0 left (min (length words.old) (length list.old / 8 - at))))) }
+    requires { Checked (told table) × (fits (told table) (whole_of table.degree f seconds.old) ≡ true) × (at ≤ length list.old / 8) × (length seconds.old ≡ lent_words table.degree) }
+    ensures { (outcome_with table.entry.degree result seconds.new ≡ ran_of (told table.entry) f.place.0 left (min (length words.old) (length list.old / 8 - at)))
+        × (list.new ≡ pasted list.old (8 * at) (bytes_from (found_in (told table.entry) f.place.0 left (min (length words.old) (length list.old / 8 - at))))) }
 {
     let room = list.len() / 8 - at;
     let c = words.len().min(room);
-    let o = reporting::ran(degree, n, m, table, f, seconds, left, &mut words[..c]);
+    let o = reporting::ran(table, f, seconds, left, &mut words[..c]);
     let k = did(o.answer).found as usize;
     codec::encode(&words[..k], list, at);
     o
@@ -66,28 +63,25 @@ fn part(
 
 // A call that nothing refuses, piece after piece.
 fn filled(
-    degree: Degree,
-    n: u64,
-    m: u64,
-    table: &[u64],
+    table: Told,
     f: First,
     seconds: &mut [u64],
     budget: u64,
     words: &mut [u64],
     list: &mut [u8],
 ) -> Moved
-    requires { Checked (table_with degree n m table.now) × (fits (table_with degree n m table.now) (whole_of degree f seconds.old) ≡ true) × (0 < length words.old) × (length seconds.old ≡ lent_words degree) }
-    ensures { (outcome_with degree result seconds.new ≡ ran_of (table_with degree n m table.now) f.place.0 budget (length list.old / 8))
-        × (list.new ≡ pasted list.old 0 (bytes_from (found_in (table_with degree n m table.now) f.place.0 budget (length list.old / 8)))) }
+    requires { Checked (told table) × (fits (told table) (whole_of table.degree f seconds.old) ≡ true) × (0 < length words.old) × (length seconds.old ≡ lent_words table.degree) }
+    ensures { (outcome_with table.entry.degree result seconds.new ≡ ran_of (told table.entry) f.place.0 budget (length list.old / 8))
+        × (list.new ≡ pasted list.old 0 (bytes_from (found_in (told table.entry) f.place.0 budget (length list.old / 8)))) }
 {
-    let end = positions::power(n);
+    let end = positions::power(table.n);
     let len = list.len() / 8;
     let mut s = f;
     let mut left = budget;
     let mut at: usize = 0;
     let mut additions: u64 = 0;
     loop {
-        let o = part(degree, n, m, table, s, seconds, left, words, list, at);
+        let o = part(table, s, seconds, left, words, list, at);
         let this = did(o.answer);
         s = o.first;
         at += this.found as usize;
@@ -112,49 +106,35 @@ fn filled(
 
 // One call of the search on a record in two parts, with the list as bytes: as many entries as there are whole words.
 pub fn search_parts(
-    degree: Degree,
-    n: u64,
-    m: u64,
-    table: &[u64],
+    table: Told,
     f: First,
     seconds: &mut [u64],
     budget: u64,
     list: &mut [u8],
 ) -> Moved
-    requires { length seconds.old ≡ lent_words degree }
-    ensures { (outcome_with degree result seconds.new ≡ outcome_in (table_with degree n m table.now) (whole_of degree f seconds.old) budget list.old)
-        × (list.new ≡ list_in (table_with degree n m table.now) (whole_of degree f seconds.old) budget list.old) }
+    requires { length seconds.old ≡ lent_words table.degree }
+    ensures { (outcome_with table.entry.degree result seconds.new ≡ outcome_in (told table.entry) (whole_of table.entry.degree f seconds.old) budget list.old)
+        × (list.new ≡ list_in (told table.entry) (whole_of table.entry.degree f seconds.old) budget list.old) }
 {
     // A refusal goes with the record as it was, and so not by `?`.
-    let verdict = judging::judged(degree, n, m, table, f, seconds, budget, list.len() / 8);
-    match verdict {
+    match judging::judged(table, f, seconds, budget, list.len() / 8) {
         Err(x) => Moved {
             answer: Err(x),
             first: f,
         },
         Ok(()) => {
             let mut words = [0u64; PIECE_ENTRIES];
-            filled(degree, n, m, table, f, seconds, budget, &mut words, list)
+            filled(table, f, seconds, budget, &mut words, list)
         }
     }
 }
 
 // One call of the search with the list as bytes: as many entries as there are whole words.
-pub fn search_bytes(
-    degree: Degree,
-    n: u64,
-    m: u64,
-    table: &[u64],
-    r: Record,
-    budget: u64,
-    list: &mut [u8],
-) -> Outcome
-    ensures { (result ≡ outcome_in (table_with degree n m table.now) r budget list.old)
-        × (list.new ≡ list_in (table_with degree n m table.now) r budget list.old) }
+pub fn search_bytes(table: Told, r: Record, budget: u64, list: &mut [u8]) -> Outcome
+    ensures { (result ≡ outcome_in (told table.entry) r budget list.old)
+        × (list.new ≡ list_in (told table.entry) r budget list.old) }
 {
-    let f = first_for(degree, r);
-    let mut seconds = r.seconds;
-    let k = lent_words(degree);
-    let o = search_parts(degree, n, m, table, f, &mut seconds[..k], budget, list);
-    joined(o, r, seconds)
+    search::in_parts(table, r, list, |table, f, seconds, list| {
+        search_parts(table, f, seconds, budget, list)
+    })
 }

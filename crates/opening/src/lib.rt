@@ -6,9 +6,9 @@ ghost use Rattle.std.specs.Prelude.{◌≡◌};
 ghost use Rattle.opening.specs.First.{first_of, with_seconds};
 ghost use Rattle.opening.specs.Opened.{open_verdict, open_of, opened_code};
 ghost use Rattle.refusals.specs.Refusal.{code_of};
-ghost use Rattle.given.specs.Given.{table_with};
+ghost use Rattle.given.specs.Told.{told};
 
-use given::Degree;
+use given::Told;
 use gray::Place;
 use refusals::{MOST_UNKNOWNS, Refusal, SECOND_WORDS};
 use trits::Vector;
@@ -71,13 +71,13 @@ impl First {
 }
 
 // The record of a table at any place 0 to 3^n.
-pub fn open(degree: Degree, n: u64, m: u64, table: &[u64], place: Place) -> Result<Record, Refusal>
-    ensures value { result ≡ open_of (table_with degree n m table.now) place.0 }
-    ensures number { opened_code result ≡ code_of (open_verdict (table_with degree n m table.now) place.0) }
+pub fn open(table: Told, place: Place) -> Result<Record, Refusal>
+    ensures value { result ≡ open_of (told table.entry) place.0 }
+    ensures number { opened_code result ≡ code_of (open_verdict (told table.entry) place.0) }
 {
-    given::check(degree, n, m, table)?;
-    if place.0 > positions::power(n) {
+    given::check(table)?;
+    if place.0 > positions::power(table.n) {
         return Err(Refusal::Range);
     }
-    Ok(record_at(degree, n, m, table, place.0))
+    Ok(record_at(table, place.0))
 }

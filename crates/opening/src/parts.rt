@@ -7,14 +7,15 @@ ghost use Rattle.polynomials.specs.Poly.{slope, diff};
 ghost use Rattle.tables.specs.Words.{poly_at, Table};
 ghost use Rattle.tables.specs.Monomials.{count_of};
 ghost use Rattle.refusals.specs.Limits.{most_unknowns};
-ghost use Rattle.given.specs.Given.{table_with, quadratic, cubic, Checked};
+ghost use Rattle.given.specs.Given.{Checked};
+ghost use Rattle.given.specs.Told.{told, told_two, told_three};
 ghost use Rattle.given.specs.declared.Degree.TheVariants as degree;
 ghost use Rattle.opening.specs.Opened.{opened_at};
 ghost use Rattle.opening.specs.First.{whole_of};
 ghost use Rattle.opening.specs.Parts.{Slots};
 
 use crate::{First, Record};
-use given::Degree;
+use given::{Degree, Told};
 use gray::Place;
 use refusals::{MOST_UNKNOWNS, MOST_WORDS, SECOND_WORDS};
 use trits::Vector;
@@ -100,19 +101,19 @@ fn latest_place(p: u64) -> u64
 }
 
 // The first part of the record of a checked table of degree 2 at a place; c is room for its coefficients.
-fn fill(n: u64, m: u64, table: &[u64], place: u64, c: &mut [u64]) -> First
-    requires { Checked (quadratic n m table.now) × (place ≤ 3 ^ n) × (length c.old ≡ 2 * count_of n) }
-    ensures { whole_of degree.Two result [] ≡ opened_at (quadratic n m table.now) place }
+fn fill(table: Told, place: u64, c: &mut [u64]) -> First
+    requires { Checked (told_two table) × (place ≤ 3 ^ table.n) × (length c.old ≡ 2 * count_of table.n) }
+    ensures { whole_of degree.Two result [] ≡ opened_at (told_two table.entry) place }
 {
-    let k = n as usize;
+    let k = table.n as usize;
     let q = latest_place(place);
     let x = gray::digits_at(k, 0, 1, Place(q));
-    differences::coefficients_into(table, c, k);
+    differences::coefficients_into(table.words, c, k);
     let value = evaluation::value_at(c, k, &x);
     let slots = slots(c, k, q);
     First {
-        n,
-        m,
+        n: table.n,
+        m: table.m,
         place: Place(place),
         value,
         slots,
@@ -120,35 +121,35 @@ fn fill(n: u64, m: u64, table: &[u64], place: u64, c: &mut [u64]) -> First
 }
 
 // The first part of the record of a checked table of degree 2 at a place. Public for those who compare or walk without second slots.
-pub fn first_two(n: u64, m: u64, table: &[u64], place: u64) -> First
-    requires { Checked (quadratic n m table.now) × (place ≤ 3 ^ n) }
-    ensures { whole_of degree.Two result [] ≡ opened_at (quadratic n m table.now) place }
+pub fn first_two(table: Told, place: u64) -> First
+    requires { Checked (told_two table) × (place ≤ 3 ^ table.n) }
+    ensures { whole_of degree.Two result [] ≡ opened_at (told_two table.entry) place }
 {
     let mut c = [0u64; MOST_WORDS];
-    let len = table.len();
-    fill(n, m, table, place, &mut c[..len])
+    let len = table.words.len();
+    fill(table, place, &mut c[..len])
 }
 
 // The record of a checked table of degree 2 at a place.
-fn record_two(n: u64, m: u64, table: &[u64], place: u64) -> Record
-    requires { Checked (quadratic n m table.now) × (place ≤ 3 ^ n) }
-    ensures { result ≡ opened_at (quadratic n m table.now) place }
+fn record_two(table: Told, place: u64) -> Record
+    requires { Checked (told_two table) × (place ≤ 3 ^ table.n) }
+    ensures { result ≡ opened_at (told_two table.entry) place }
 {
-    first_two(n, m, table, place).with([0; SECOND_WORDS])
+    first_two(table, place).with([0; SECOND_WORDS])
 }
 
 // The record of a checked table of degree 3 at a place.
-fn record_three(n: u64, m: u64, table: &[u64], place: u64) -> Record
-    requires { Checked (cubic n m table.now) × (place ≤ 3 ^ n) }
-    ensures { result ≡ opened_at (cubic n m table.now) place }
+fn record_three(table: Told, place: u64) -> Record
+    requires { Checked (told_three table) × (place ≤ 3 ^ table.n) }
+    ensures { result ≡ opened_at (told_three table.entry) place }
 {
     let q = latest_place(place);
-    let h = cubic_opening::stood_at(table, n as usize, q);
+    let h = cubic_opening::stood_at(table.words, table.n as usize, q);
     let slots = h.slots;
     let seconds = h.seconds;
     Record {
-        n,
-        m,
+        n: table.n,
+        m: table.m,
         place: Place(place),
         value: h.value,
         slots,
@@ -157,12 +158,12 @@ fn record_three(n: u64, m: u64, table: &[u64], place: u64) -> Record
 }
 
 // The record of a checked table at a place.
-pub fn record_at(degree: Degree, n: u64, m: u64, table: &[u64], place: u64) -> Record
-    requires { Checked (table_with degree n m table.now) × (place ≤ 3 ^ n) }
-    ensures { result ≡ opened_at (table_with degree n m table.now) place }
+pub fn record_at(table: Told, place: u64) -> Record
+    requires { Checked (told table) × (place ≤ 3 ^ table.n) }
+    ensures { result ≡ opened_at (told table.entry) place }
 {
-    match degree {
-        Degree::Two => record_two(n, m, table, place),
-        Degree::Three => record_three(n, m, table, place),
+    match table.degree {
+        Degree::Two => record_two(table, place),
+        Degree::Three => record_three(table, place),
     }
 }

@@ -9,6 +9,7 @@ use Rattle.cubic_tables.specs.Words.{cubic_values}
 use Rattle.cubic_tables.specs.Answers.{cubic_pack_verdict, cubic_pack_after, cubic_copy, cubic_differences_after, cubic_coefficients_after, cubic_evaluate_verdict}
 use Rattle.given.specs.declared.Degree.{Degree}
 use Rattle.given.specs.declared.Degree.TheVariants.{Two, Three}
+use Rattle.given.specs.Given.{Given}
 
 -- signed rows into a table
 abbrev pub packing : Degree → ℕ → ℕ → List ℤ → List ℕ → Verdict
@@ -47,3 +48,19 @@ evaluated_in d n m c x = valued (evaluating d n m c x) (value_in d n m c x)
 -- what it has to tell
 abbrev pub TellsIn : Degree → ℕ → ℕ → List ℕ → ℕ → Evaluated → Type 0
 TellsIn d n m c x r = TellsOf (evaluating d n m c x) (value_in d n m c x) r
+
+-- ---- the same, of a table as it is told
+abbrev pub copying_told : Given → List ℕ → Verdict
+copying_told g to = copying g.degree g.n g.m g.words to
+
+abbrev pub differences_told : Given → List ℕ → List ℕ
+differences_told g t = differences_into g.degree g.n g.m g.words t
+
+abbrev pub coefficients_told : Given → List ℕ → List ℕ
+coefficients_told g c = coefficients_into g.degree g.n g.m g.words c
+
+abbrev pub evaluated_told : Given → ℕ → Evaluated
+evaluated_told g x = evaluated_in g.degree g.n g.m g.words x
+
+abbrev pub TellsTold : Given → ℕ → Evaluated → Type 0
+TellsTold g x r = TellsIn g.degree g.n g.m g.words x r

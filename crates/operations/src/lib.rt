@@ -4,15 +4,16 @@
 
 ghost use Rattle.std.specs.Prelude.{◌≡◌};
 ghost use Rattle.refusals.specs.Refusal.{code_of};
-ghost use Rattle.operations.specs.Operations.{packing, packed_into, copying, differences_into, coefficients_into, evaluated_in, TellsIn};
+ghost use Rattle.given.specs.Told.{told};
+ghost use Rattle.operations.specs.Operations.{packing, packed_into, copying_told, differences_told, coefficients_told, evaluated_told, TellsTold};
 
 use checks::Quadratic;
-use given::Degree;
+use given::{Degree, Told};
 use gray::Point;
 use refusals::Refusal;
 use trits::Vector;
 
-// Signed rows into a table of words.
+// Signed rows into a table of words. The table is written: `Told` has words that are read.
 pub fn pack(degree: Degree, n: u64, m: u64, rows: &[i8], table: &mut [u64]) -> Result<(), Refusal>
     ensures answer { result ≡ packing degree n m rows.now table.old }
     ensures left { table.new ≡ packed_into degree n m rows.now table.old }
@@ -25,53 +26,53 @@ pub fn pack(degree: Degree, n: u64, m: u64, rows: &[i8], table: &mut [u64]) -> R
 }
 
 // The table of differences of a coefficient table.
-pub fn differences(
-    degree: Degree,
-    n: u64,
-    m: u64,
-    coefficients: &[u64],
-    table: &mut [u64],
-) -> Result<(), Refusal>
-    ensures answer { result ≡ copying degree n m coefficients.now table.old }
-    ensures left { table.new ≡ differences_into degree n m coefficients.now table.old }
-    ensures number { code_of result ≡ code_of (copying degree n m coefficients.now table.old) }
+pub fn differences(coefficients: Told, table: &mut [u64]) -> Result<(), Refusal>
+    ensures answer { result ≡ copying_told (told coefficients.entry) table.old }
+    ensures left { table.new ≡ differences_told (told coefficients.entry) table.old }
+    ensures number { code_of result ≡ code_of (copying_told (told coefficients.entry) table.old) }
 {
+    let Told {
+        degree,
+        n,
+        m,
+        words,
+    } = coefficients;
     match degree {
-        Degree::Two => differences::differences(n, m, coefficients, table),
-        Degree::Three => cubic_differences::differences(n, m, coefficients, table),
+        Degree::Two => differences::differences(n, m, words, table),
+        Degree::Three => cubic_differences::differences(n, m, words, table),
     }
 }
 
 // The coefficient table of a table of differences.
-pub fn coefficients(
-    degree: Degree,
-    n: u64,
-    m: u64,
-    table: &[u64],
-    coefficients: &mut [u64],
-) -> Result<(), Refusal>
-    ensures answer { result ≡ copying degree n m table.now coefficients.old }
-    ensures left { coefficients.new ≡ coefficients_into degree n m table.now coefficients.old }
-    ensures number { code_of result ≡ code_of (copying degree n m table.now coefficients.old) }
+pub fn coefficients(table: Told, coefficients: &mut [u64]) -> Result<(), Refusal>
+    ensures answer { result ≡ copying_told (told table.entry) coefficients.old }
+    ensures left { coefficients.new ≡ coefficients_told (told table.entry) coefficients.old }
+    ensures number { code_of result ≡ code_of (copying_told (told table.entry) coefficients.old) }
 {
+    let Told {
+        degree,
+        n,
+        m,
+        words,
+    } = table;
     match degree {
-        Degree::Two => differences::coefficients(n, m, table, coefficients),
-        Degree::Three => cubic_coefficients::coefficients(n, m, table, coefficients),
+        Degree::Two => differences::coefficients(n, m, words, coefficients),
+        Degree::Three => cubic_coefficients::coefficients(n, m, words, coefficients),
     }
 }
 
 // The value of each equation at a point.
-pub fn evaluate(
-    degree: Degree,
-    n: u64,
-    m: u64,
-    coefficients: &[u64],
-    x: Point,
-) -> Result<Vector, Refusal>
-    ensures { (result ≡ evaluated_in degree n m coefficients.now x.0) × TellsIn degree n m coefficients.now x.0 result }
+pub fn evaluate(coefficients: Told, x: Point) -> Result<Vector, Refusal>
+    ensures { (result ≡ evaluated_told (told coefficients.entry) x.0) × TellsTold (told coefficients.entry) x.0 result }
 {
+    let Told {
+        degree,
+        n,
+        m,
+        words,
+    } = coefficients;
     match degree {
-        Degree::Two => evaluation::evaluate(n, m, coefficients, x),
-        Degree::Three => cubic_evaluation::evaluate(n, m, coefficients, x),
+        Degree::Two => evaluation::evaluate(n, m, words, x),
+        Degree::Three => cubic_evaluation::evaluate(n, m, words, x),
     }
 }

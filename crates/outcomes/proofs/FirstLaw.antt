@@ -130,7 +130,19 @@ module _ (d : Degree) (n m : ℕ) (t : List ℕ) (r : Record) (long : length r.s
   pub parts_fit : Checked g → fits g r ≡ true → w ≡ r
   parts_fit ok h = ⊎_elim (λ i. i) (λ f. absurd (false≢true (sym f.1 ∙ h))) (same ok)
 
-  -- ---- a call on the parts, put together again
+  -- ---- a call on the parts that ran, put together again
+  pub parts_ran : w ≡ r → (o : Moved) (s' : List ℕ) (u : Outcome) (x : Report) → outcome_with d o s' ≡ u → u.answer ≡ Ok x → length s' ≡ lent_words d
+      → joined_of o.answer o.first r (s' ++ drop (lent_words d) r.seconds) ≡ u
+  unfolding joined_of
+  parts_ran i o s' u x e ea kept =
+      let a : o.answer ≡ Ok x = ap (λ (y : Outcome). y.answer) e ∙ ea in
+      let es = seconds_left d s' r.seconds kept long (sym lent ∙ ap (λ (y : Record). y.seconds) i) in
+      ap (λ (y : Answer). joined_of y o.first r (s' ++ drop (lent_words d) r.seconds)) a
+      ∙ ap (λ (y : List ℕ). joined_of (Ok x) o.first r y) es
+      ∙ ap (λ (y : Answer). record { answer = y; «record» = whole_of d o.first s' }) (sym a)
+      ∙ e
+
+  -- ---- any call on them
   module _ (b : ℕ) (l : List ℕ) (o : Moved) (k s' : List ℕ) (eo : outcome_with d o s' ≡ outcome_of g w b l) (ek : k ≡ list_left g w b l) where
     parts_refused : (f : Refusal) → search_verdict g r b l ≡ Err f → (x : List ℕ) → (joined_of o.answer o.first r x ≡ outcome_of g r b l) × (k ≡ list_left g r b l)
     unfolding joined_of
@@ -142,18 +154,11 @@ module _ (d : Degree) (n m : ℕ) (t : List ℕ) (r : Record) (long : length r.s
 
     parts_done : search_verdict g r b l ≡ done → length s' ≡ lent_words d
         → (joined_of o.answer o.first r (s' ++ drop (lent_words d) r.seconds) ≡ outcome_of g r b l) × (k ≡ list_left g r b l)
-    unfolding joined_of
     parts_done e kept =
-        let i = parts_whole b (length l) e in
-        let eo' = eo ∙ ap (λ (x : Record). outcome_of g x b l) i in
-        let x = s' ++ drop (lent_words d) r.seconds in
-        let es : x ≡ seconds_from d s' = seconds_left d s' r.seconds kept long (sym lent ∙ ap (λ (y : Record). y.seconds) i) in
-        let u = report_of (trail_behind g) b (length l) r.place.0 in
-        let a : o.answer ≡ Ok u = ap (λ (y : Outcome). y.answer) (eo' ∙ ap (λ (v : Verdict). outcome_from v r (ran_of g r.place.0 b (length l))) e) in (
-          ap (λ (y : Answer). joined_of y o.first r x) a
-              ∙ ap (λ (y : List ℕ). joined_of (Ok u) o.first r y) es
-              ∙ ap (λ (y : Answer). record { answer = y; «record» = whole_of d o.first s' }) (sym a)
-              ∙ eo',
+        let i = parts_whole b (length l) e in (
+          parts_ran i o s' (outcome_of g r b l) (report_of (trail_behind g) b (length l) r.place.0)
+              (eo ∙ ap (λ (x : Record). outcome_of g x b l) i)
+              (ap (λ (v : Verdict). (outcome_from v r (ran_of g r.place.0 b (length l))).answer) e) kept,
           ek ∙ ap (λ (x : Record). list_left g x b l) i,
         )
 

@@ -43,7 +43,13 @@ fn start(
     ensures { IsOkAnd result (Started n m words.now table.new text.new) }
 {
     differences::differences(n, m, words, table)?;
-    let record = opening::open(Degree::Two, n, m, table, Place(0))?;
+    let graph = given::Told {
+        degree: Degree::Two,
+        n,
+        m,
+        words: table,
+    };
+    let record = opening::open(graph, Place(0))?;
     let used = listing::put_head(text, n, m);
     Ok(Session {
         n,
@@ -114,7 +120,13 @@ pub fn next(s: Session, table: &[u64], budget: u64, list: &mut [u64], text: &mut
     ensures { Went table.now s text.new result
         × Stepped table.now s budget list.old list.new text.old text.new result }
 {
-    let o = search::search(Degree::Two, s.n, s.m, table, s.record, budget, list);
+    let graph = given::Told {
+        degree: Degree::Two,
+        n: s.n,
+        m: s.m,
+        words: table,
+    };
+    let o = search::search(graph, s.record, budget, list);
     let record = o.record;
     match o.answer {
         Ok(report) => {

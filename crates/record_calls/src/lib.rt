@@ -7,6 +7,7 @@ ghost use Rattle.refusals.specs.Refusal.{code_of};
 ghost use Rattle.given.specs.Given.{table_told};
 ghost use Rattle.record_calls.specs.Call.{open_call, open_after};
 
+use given::Told;
 use gray::Place;
 use refusals::{RECORD_WORDS, Refusal};
 
@@ -24,8 +25,7 @@ fn put(n: u64, m: u64, table: &[u64], place: Place, record: &mut [u64]) -> Resul
         × («record».new ≡ open_after (table_told n m table.now) place.0 «record».old) }
 {
     lent::room_for(n, m, record.len(), RECORD_WORDS)?;
-    let degree = given::degree_of(n, table.len());
-    let r = opening::open(degree, n, m, table, place)?;
+    let r = opening::open(Told::by_length(n, m, table), place)?;
     wire_out::put_record(r, record);
     Ok(())
 }

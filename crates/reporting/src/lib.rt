@@ -3,13 +3,14 @@
 
 ghost use Rattle.std.specs.Prelude.{◌≡◌, true, ◌≤◌, length};
 ghost use Rattle.walks.specs.Calls.{list_after};
-ghost use Rattle.given.specs.Given.{table_with, Checked};
+ghost use Rattle.given.specs.Given.{Checked};
+ghost use Rattle.given.specs.Told.{told};
 ghost use Rattle.opening.specs.First.{lent_words, whole_of};
 ghost use Rattle.outcomes.specs.Search.{trail_behind, fits, ran_of};
 ghost use Rattle.outcomes.specs.First.{outcome_with};
 ghost use Rattle.reporting.specs.Reported.{reported_of};
 
-use given::Degree;
+use given::Told;
 use opening::First;
 use outcomes::{Moved, stop_of};
 use walking::{Went, walked};
@@ -35,23 +36,14 @@ fn reported(from: u64, end: u64, len: usize, t: Went) -> Moved
 }
 
 // The walk of a call that nothing refuses. Public for lists that are filled piece by piece, whose calls are judged once.
-pub fn ran(
-    degree: Degree,
-    n: u64,
-    m: u64,
-    table: &[u64],
-    f: First,
-    seconds: &mut [u64],
-    budget: u64,
-    list: &mut [u64],
-) -> Moved
-    requires { Checked (table_with degree n m table.now) × (fits (table_with degree n m table.now) (whole_of degree f seconds.old) ≡ true) × (length seconds.old ≡ lent_words degree) }
-    ensures { (outcome_with degree result seconds.new ≡ ran_of (table_with degree n m table.now) f.place.0 budget (length list.old))
-        × (list.new ≡ list_after (trail_behind (table_with degree n m table.now)) budget f.place.0 list.old) }
+pub fn ran(table: Told, f: First, seconds: &mut [u64], budget: u64, list: &mut [u64]) -> Moved
+    requires { Checked (told table) × (fits (told table) (whole_of table.degree f seconds.old) ≡ true) × (length seconds.old ≡ lent_words table.degree) }
+    ensures { (outcome_with table.entry.degree result seconds.new ≡ ran_of (told table.entry) f.place.0 budget (length list.old))
+        × (list.new ≡ list_after (trail_behind (told table.entry)) budget f.place.0 list.old) }
 {
     let from = f.place.0;
-    let end = positions::power(n);
+    let end = positions::power(table.n);
     let len = list.len();
-    let t = walked(degree, n, m, table, end, f, seconds, budget, list);
+    let t = walked(table, end, f, seconds, budget, list);
     reported(from, end, len, t)
 }

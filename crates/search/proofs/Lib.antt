@@ -1,1 +1,1 @@
-pub mod RanLaw
+pub mod PartsLaw

@@ -4,8 +4,7 @@
 mod calls;
 mod lent;
 mod parts;
-mod walked;
 
 pub use calls::{judged, ran, search};
 pub use lent::search_lent;
-pub use parts::{first_for, joined, lent_words};
+pub use parts::{first_for, in_parts, joined, lent_words};

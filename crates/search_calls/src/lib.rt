@@ -14,7 +14,7 @@ ghost use Rattle.search_calls.specs.Call.{bytes_told, shaped, reading_by, readin
 ghost use Rattle.search_calls.specs.Parts.{Writes};
 
 use answers::ANSWER_LENGTH;
-use given::Degree;
+use given::{Degree, Told};
 use opening::First;
 use refusals::{MOST_CUBIC_WORDS, MOST_WORDS, RECORD_LENGTH, Refusal, SECOND_WORDS, sizes_fit};
 
@@ -97,6 +97,7 @@ fn first_in(degree: Degree, record: &[u8]) -> First
 }
 
 // The search of a degree over bytes: the table's words are read into `words` first, and those of the record's second slots into `seconds`.
+// The table is bytes here: what is told beside it becomes a `Told` with the words.
 fn over_words(
     degree: Degree,
     n: u64,
@@ -116,7 +117,13 @@ fn over_words(
     codec::decode(table, &mut words[..k]);
     let f = first_in(degree, record);
     wire::read_seconds(record, seconds);
-    let o = lists::search_parts(degree, n, m, &words[..k], f, seconds, budget, list);
+    let told = Told {
+        degree,
+        n,
+        m,
+        words: &words[..k],
+    };
+    let o = lists::search_parts(told, f, seconds, budget, list);
     let end = positions::power(n);
     answers::finish_parts(end, o.answer, o.first, seconds, record, answer)
 }

@@ -6,6 +6,8 @@ ghost use Rattle.std.specs.Prelude.{◌≡◌};
 ghost use Rattle.refusals.specs.Refusal.{code_of};
 ghost use Rattle.table_calls.specs.Call.{check_call, pack_call, pack_left};
 
+use given::Told;
+
 // Signed rows into a table of words.
 pub fn pack(n: u64, m: u64, rows: &[i8], table: &mut [u64]) -> u64
     ensures { (result ≡ code_of (pack_call n m rows.now table.old))
@@ -20,7 +22,6 @@ pub fn pack(n: u64, m: u64, rows: &[i8], table: &mut [u64]) -> u64
 pub fn check(n: u64, m: u64, table: &[u64]) -> u64
     ensures { result ≡ code_of (check_call n m table.now) }
 {
-    let degree = given::degree_of(n, table.len());
-    let checked = given::check(degree, n, m, table);
+    let checked = given::check(Told::by_length(n, m, table));
     refusals::code(checked)
 }

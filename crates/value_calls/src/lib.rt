@@ -6,6 +6,7 @@ ghost use Rattle.std.specs.Prelude.{◌≡◌};
 ghost use Rattle.refusals.specs.Refusal.{code_of};
 ghost use Rattle.table_calls.specs.Call.{evaluate_call, evaluate_after};
 
+use given::Told;
 use gray::Point;
 use refusals::Refusal;
 
@@ -21,8 +22,7 @@ fn value_put(
 {
     lent::room_for(n, m, value.len(), 2)?;
     let x = Point(point);
-    let degree = given::degree_of(n, coefficients.len());
-    let e = operations::evaluate(degree, n, m, coefficients, x);
+    let e = operations::evaluate(Told::by_length(n, m, coefficients), x);
     lent::put_value(e, value)
 }
 

@@ -1,11 +1,10 @@
 -- What a walk leaves that answers as a call on the walk of the system does, of either degree.
-use mathlib.Core.Path.{◌≡◌, sym, ap, subst, ◌∙◌}
+use mathlib.Core.Path.{◌≡◌, ap, ◌∙◌}
 use mathlib.Core.List.{List}
 use Prim.Native.Nat.{ℕ, ◌+◌}
 use lib.ListN.{length}
 use Rattle.walks.specs.Calls.{Trail, report_of, list_after}
-use Rattle.given.specs.declared.Degree.{Degree}
-use Rattle.given.specs.Given.{Given, table_with}
+use Rattle.given.specs.Given.{Given}
 use Rattle.opening.specs.Opened.{opened_at}
 use Rattle.opening.specs.First.{whole_of}
 use Rattle.outcomes.specs.Search.{trail_behind}
@@ -23,8 +22,3 @@ module _ (g : Given) where
         → Leaves g p b l k s w
     unfolding report_of
     leaves at a f e o = record { opened = o ∙ ap (opened_at g) at; additions = a; found = f; list = e }
-
--- what is left of a table of one degree, by the degree that was told
-pub leaves_by : (d c : Degree) → d ≡ c → (n m : ℕ) (t : List ℕ) (p b : ℕ) (l k s : List ℕ) (w : Went) → Leaves (table_with c n m t) p b l k s w
-    → Leaves (table_with d n m t) p b l k s w
-leaves_by d c e n m t p b l k s w h = subst (λ (x : Degree). Leaves (table_with x n m t) p b l k s w) (sym e) h

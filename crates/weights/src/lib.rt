@@ -92,15 +92,7 @@ pub fn weighed(
         → Weighs n b c a g x w → Holds m (λ e. a * (cubic_at n table.now e).quad b c + sum n (λ d. g d * (cubic_at n table.now e).cube b c d)) result }
 {
     let k = index(n, b, c);
-    let far = row(
-        table,
-        base,
-        vector(table, k),
-        &list.at,
-        &list.turn,
-        from,
-        list.count,
-    );
+    let far = row(table, base, vector(table, k), list, from);
     let near = more(table, times(far, w.whole), b < c, base + c, w.same);
     more(table, near, c + 1 < n, base + c + 1, w.next)
 }

@@ -25,6 +25,6 @@ returns c =
     let d = sym c.check.ensures.answer ∙ c.in_ok-check.was in
     let r = entries_checked (cubic_count a.n) a.n a.m a.coefficients.now d in
     let p = c.power.ensures.0 (omega (arith, r.0)) in
-    let e = ap Ok (c.value_at.ensures a.m r.1 ∙ values_are a.n a.m a.coefficients.now a.x.0 (λ k. get_or c.digits-d.result k 0) (λ k h. c.digits-d.ensures k (omega (arith, r.0))))
+    let e = ap Ok (c.value_at.ensures a.m r.1 ∙ values_are a.n a.m a.coefficients.now a.x.0 (λ k. get_or c.digits.result k 0) (λ k h. c.digits.ensures k (omega (arith, r.0))))
     ∙ sym (value_inside (cubic_count a.n) a.n a.m a.coefficients.now a.x.0 (cubic_values a.n a.m a.coefficients.now a.x.0) d (omega (arith, p, c.if-x-power.false))) in
     (e, tells_of (cubic_evaluate_verdict a.n a.m a.coefficients.now a.x.0) (cubic_values a.n a.m a.coefficients.now a.x.0) _ e)

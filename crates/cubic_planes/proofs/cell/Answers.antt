@@ -4,6 +4,7 @@ use Prim.Native.Nat.{ℕ, ◌+◌, ◌-◌}
 use native.Mathlib.Omega.{arith}
 use lib.ListN.{get_or}
 use Rattle.tables.proofs.IndexLaw.{row_ge, count_le}
+use Rattle.listed.specs.Lists.{ListHolds}
 use Rattle.listed.proofs.ListLaw.{none_begun, pair_order}
 use Rattle.cubic_tables.specs.Words.{cubic_at}
 use Rattle.cubic_tables.proofs.OrderLaw.{pair_is, cubic_count_low}
@@ -32,6 +33,7 @@ row-requires c =
     let o = pair_order a.n a.list.now.at a.list.now.count a.s a.t q.5 q.1 q.2 in record { from_le_count = (omega arith, q.3, omega (arith, c.key.ensures.1, c.index.ensures.1, count_le a.n q.0)); by_index = cell_room a.n _ _ _ (get_or a.list.now.at a.s 0) (get_or a.list.now.at a.t 0) a.list.now.count _ a.list.now.at q.5 q.0 o.0 (pair_number a.n (get_or a.list.now.at a.t 0) c.index.result c.index.ensures.0) (ap (λ (y : ℕ). y + (c.index.result - a.n - 1 - (get_or a.list.now.at a.t 0))) c.key.ensures.0) q.4 (later_same a.n a.list.now.at a.list.now.count a.s a.t q.5 c.if-s-t.true) }
 
 pub returns-then-s-t : goal.returns-then-s-t
+unfolding ListHolds
 returns-then-s-t c =
     let a = c.args in let q = c.requires in
     let o = pair_order a.n a.list.now.at a.list.now.count a.s a.t q.5 q.1 q.2 in
@@ -50,6 +52,7 @@ row-requires-2 c =
     let o = pair_order a.n a.list.now.at a.list.now.count a.s a.t q.5 q.1 q.2 in record { from_le_count = (omega arith, q.3, omega (arith, c.key.ensures.1, c.index.ensures.1, count_le a.n q.0)); by_index = cell_room a.n _ _ _ (get_or a.list.now.at a.s 0) (get_or a.list.now.at a.t 0) a.list.now.count _ a.list.now.at q.5 q.0 o.0 (pair_number a.n (get_or a.list.now.at a.t 0) c.index.result c.index.ensures.0) (ap (λ (y : ℕ). y + (c.index.result - a.n - 1 - (get_or a.list.now.at a.t 0))) c.key.ensures.0) q.4 (later_apart a.n a.list.now.at a.list.now.count a.s a.t q.5 q.1 c.if-s-t.false) }
 
 pub returns : goal.returns
+unfolding ListHolds
 returns c =
     let a = c.args in let q = c.requires in
     let o = pair_order a.n a.list.now.at a.list.now.count a.s a.t q.5 q.1 q.2 in

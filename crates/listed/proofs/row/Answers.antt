@@ -1,26 +1,10 @@
--- `listed::row` meets its contract. The invariant: what belongs to the listed unknowns before number t is summed.
-use mathlib.Core.Path.{◌≡◌, ap, ◌∙◌}
-use Prim.Native.Nat.{ℕ}
-use native.Mathlib.Omega.{arith}
-use lib.ListN.{get_or}
-use Rattle.listed.proofs.ListLaw.{listed_rise, row_more}
+-- `listed::row` meets its contract: the terms are the entries of the listed unknowns.
+use Rattle.std.proofs.Common.{rules, ◌≡◌, ◌+◌, get_or}
+use Rattle.tables.specs.Words.{entry}
 use Rattle.listed.proofs.row.Goals as goal
-
-pub loop-t-preserved : goal.loop-t-preserved
-loop-t-preserved c =
-    let a = c.args in
-    let l = c.loop-t in
-    let b = c.loop-t-test.true in
-    λ m n i x s h g o y z w.
-    let p = listed_rise n x a.at.now a.turn.now a.count g a.from l.t (omega arith) b in
-    row_more n x a.at.now a.turn.now a.count g l.t b i (omega arith) m s h l.v c.turned.result c.add-v.result (l.invariant m n i x s h g o y z w)
-    (c.turned.ensures m (x (get_or a.at.now l.t 0)) _ (g.digit l.t b).0 (g.digit l.t b).1 (g.mask l.t b) (rw c.vector.ensures (w l.t (omega arith) b))) c.add-v.ensures
 
 pub returns : goal.returns
 returns c =
     let a = c.args in
-    let l = c.loop-t in
-    let e : l.t ≡ a.count = omega (arith, c.loop-t-test.false) in
-    λ m n i x s h g o y z w.
-    let k : get_or a.at.now l.t 0 ≡ n = ap (λ (j : ℕ). get_or a.at.now j 0) e ∙ g.last in
-    rw k at (l.invariant m n i x s h g o y z w)
+    λ m n i x s h j o y z w.
+    c.summed.ensures m n i x s h j o y z (λ t v p q r. let e : v ≡ entry a.table.now (a.base + get_or a.list.now.at t 0) = search rules in rw e (w t p q))

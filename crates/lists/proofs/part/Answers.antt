@@ -5,13 +5,13 @@ use Prim.Native.Nat.{ℕ, ◌*◌, ◌≤◌}
 use native.Mathlib.Omega.{arith}
 use lib.ListN.{length, take, drop}
 use lib.Seq.{length-take-le}
+use Rattle.given.specs.Told.{told}
 use Rattle.walks.specs.declared.Report.{Report}
 use Rattle.codec.specs.Codec.{bytes_from, pasted}
 use Rattle.outcomes.specs.Search.{ran_of}
 use Rattle.outcomes.specs.First.{outcome_with}
 use Rattle.lists.specs.Listed.{found_in}
 use Rattle.lists.proofs.PieceLaw.{piece_outcome, piece_fits, piece_long, piece_listed, piece_size}
-use Rattle.given.specs.Given.{table_with}
 use Rattle.lists.proofs.part.Goals as goal
 
 pub slice_bounds-ran-end-2 : goal.slice_bounds-ran-end-2
@@ -25,7 +25,7 @@ slice_bounds-encode-end c =
     let n = c.min-c.result in
     let h : n ≤ length a.words.now = omega (arith, c.min-c.ensures) in
     let e = ap (λ (w : Report). w.found) c.did-k.ensures in
-    omega (arith, e, piece_fits (table_with a.degree a.n a.m a.table.now) a.f.place.0 a.left n a.words.now c.ran-o.new.list (outcome_with a.degree c.ran-o.result c.ran-o.new.seconds) h c.ran-o.ensures.0 c.ran-o.ensures.1, piece_long (table_with a.degree a.n a.m a.table.now) a.f.place.0 a.left n a.words.now c.ran-o.new.list (outcome_with a.degree c.ran-o.result c.ran-o.new.seconds) h c.ran-o.ensures.0 c.ran-o.ensures.1, h)
+    omega (arith, e, piece_fits (told a.table) a.f.place.0 a.left n a.words.now c.ran-o.new.list (outcome_with a.table.degree c.ran-o.result c.ran-o.new.seconds) h c.ran-o.ensures.0 c.ran-o.ensures.1, piece_long (told a.table) a.f.place.0 a.left n a.words.now c.ran-o.new.list (outcome_with a.table.degree c.ran-o.result c.ran-o.new.seconds) h c.ran-o.ensures.0 c.ran-o.ensures.1, h)
 
 pub slice_bounds-encode-end-2 : goal.slice_bounds-encode-end-2
 slice_bounds-encode-end-2 c =
@@ -33,7 +33,7 @@ slice_bounds-encode-end-2 c =
     let n = c.min-c.result in
     let h : n ≤ length a.words.now = omega (arith, c.min-c.ensures) in
     let e = ap (λ (w : Report). w.found) c.did-k.ensures in
-    e ∙ sym (piece_size (table_with a.degree a.n a.m a.table.now) a.f.place.0 a.left n a.words.now c.ran-o.new.list (outcome_with a.degree c.ran-o.result c.ran-o.new.seconds) h c.ran-o.ensures.0 c.ran-o.ensures.1) ∙ ap (λ (i : ℕ). length (take i (c.ran-o.new.list ++ drop n a.words.now))) (sym e)
+    e ∙ sym (piece_size (told a.table) a.f.place.0 a.left n a.words.now c.ran-o.new.list (outcome_with a.table.degree c.ran-o.result c.ran-o.new.seconds) h c.ran-o.ensures.0 c.ran-o.ensures.1) ∙ ap (λ (i : ℕ). length (take i (c.ran-o.new.list ++ drop n a.words.now))) (sym e)
 
 pub encode-requires : goal.encode-requires
 encode-requires c =
@@ -41,8 +41,8 @@ encode-requires c =
     let n = c.min-c.result in
     let h : n ≤ length a.words.now = omega (arith, c.min-c.ensures) in
     let e = ap (λ (w : Report). w.found) c.did-k.ensures in
-    let i = ap (λ (i : ℕ). length (take i (c.ran-o.new.list ++ drop n a.words.now))) e ∙ piece_size (table_with a.degree a.n a.m a.table.now) a.f.place.0 a.left n a.words.now c.ran-o.new.list (outcome_with a.degree c.ran-o.result c.ran-o.new.seconds) h c.ran-o.ensures.0 c.ran-o.ensures.1 in
-    omega (arith, i, piece_fits (table_with a.degree a.n a.m a.table.now) a.f.place.0 a.left n a.words.now c.ran-o.new.list (outcome_with a.degree c.ran-o.result c.ran-o.new.seconds) h c.ran-o.ensures.0 c.ran-o.ensures.1, c.min-c.ensures, c.requires.2)
+    let i = ap (λ (i : ℕ). length (take i (c.ran-o.new.list ++ drop n a.words.now))) e ∙ piece_size (told a.table) a.f.place.0 a.left n a.words.now c.ran-o.new.list (outcome_with a.table.degree c.ran-o.result c.ran-o.new.seconds) h c.ran-o.ensures.0 c.ran-o.ensures.1 in
+    omega (arith, i, piece_fits (told a.table) a.f.place.0 a.left n a.words.now c.ran-o.new.list (outcome_with a.table.degree c.ran-o.result c.ran-o.new.seconds) h c.ran-o.ensures.0 c.ran-o.ensures.1, c.min-c.ensures, c.requires.2)
 
 pub returns : goal.returns
 returns c =
@@ -51,9 +51,9 @@ returns c =
     let h : n ≤ length a.words.now = omega (arith, c.min-c.ensures) in
     let e = ap (λ (w : Report). w.found) c.did-k.ensures in
     let i = c.min-c.ensures in (
-      piece_outcome (table_with a.degree a.n a.m a.table.now) a.f.place.0 a.left n a.words.now c.ran-o.new.list (outcome_with a.degree c.ran-o.result c.ran-o.new.seconds) h c.ran-o.ensures.0 c.ran-o.ensures.1 ∙ ap (ran_of (table_with a.degree a.n a.m a.table.now) a.f.place.0 a.left) i,
+      piece_outcome (told a.table) a.f.place.0 a.left n a.words.now c.ran-o.new.list (outcome_with a.table.degree c.ran-o.result c.ran-o.new.seconds) h c.ran-o.ensures.0 c.ran-o.ensures.1 ∙ ap (ran_of (told a.table) a.f.place.0 a.left) i,
       c.encode.ensures
           ∙ ap (λ (f : List ℕ). pasted a.list.now (8 * a.at) (bytes_from f)) (
-          ap (λ (j : ℕ). take j (c.ran-o.new.list ++ drop n a.words.now)) e ∙ piece_listed (table_with a.degree a.n a.m a.table.now) a.f.place.0 a.left n a.words.now c.ran-o.new.list (outcome_with a.degree c.ran-o.result c.ran-o.new.seconds) h c.ran-o.ensures.0 c.ran-o.ensures.1
-          ∙ ap (found_in (table_with a.degree a.n a.m a.table.now) a.f.place.0 a.left) i),
+          ap (λ (j : ℕ). take j (c.ran-o.new.list ++ drop n a.words.now)) e ∙ piece_listed (told a.table) a.f.place.0 a.left n a.words.now c.ran-o.new.list (outcome_with a.table.degree c.ran-o.result c.ran-o.new.seconds) h c.ran-o.ensures.0 c.ran-o.ensures.1
+          ∙ ap (found_in (told a.table) a.f.place.0 a.left) i),
     )

@@ -3,25 +3,25 @@ use mathlib.Core.Path.{sym, ◌∙◌}
 use Prim.Native.Nat.{◌/◌}
 use native.Mathlib.Omega.{arith}
 use lib.ListN.{length}
+use Rattle.given.specs.Told.{told}
 use Rattle.outcomes.proofs.VerdictLaw.{passed}
 use Rattle.lists.proofs.ListedLaw.{listed_refused, listed_done}
-use Rattle.given.specs.Given.{table_with}
 use Rattle.opening.specs.First.{whole_of}
 use Rattle.lists.proofs.search_parts.Goals as goal
 
 pub filled-requires : goal.filled-requires
 filled-requires c =
     let a = c.args in
-    let p = passed (table_with a.degree a.n a.m a.table.now) (whole_of a.degree a.f a.seconds.now) a.budget (length a.list.now / 8) (sym c.judged-verdict.ensures ∙ c.in-Ok.is) in
+    let p = passed (told a.table) (whole_of a.table.degree a.f a.seconds.now) a.budget (length a.list.now / 8) (sym c.judged.ensures ∙ c.in-Ok.is) in
     (p.checked, p.own, omega arith, c.requires)
 
 pub returns-in-Err : goal.returns-in-Err
 returns-in-Err c =
     let a = c.args in
-    listed_refused (table_with a.degree a.n a.m a.table.now) (whole_of a.degree a.f a.seconds.now) a.budget a.list.now _ (sym c.judged-verdict.ensures ∙ c.in-Err.is)
+    listed_refused (told a.table) (whole_of a.table.degree a.f a.seconds.now) a.budget a.list.now _ (sym c.judged.ensures ∙ c.in-Err.is)
 
 pub returns-in-Ok : goal.returns-in-Ok
 returns-in-Ok c =
     let a = c.args in
     let f = c.filled in
-    listed_done (table_with a.degree a.n a.m a.table.now) (whole_of a.degree a.f a.seconds.now) a.budget a.list.now (sym c.judged-verdict.ensures ∙ c.in-Ok.is) _ _ f.ensures.0 f.ensures.1
+    listed_done (told a.table) (whole_of a.table.degree a.f a.seconds.now) a.budget a.list.now (sym c.judged.ensures ∙ c.in-Ok.is) _ _ f.ensures.0 f.ensures.1

@@ -4,8 +4,7 @@ use mathlib.Core.Path.{sym, ap, ◌∙◌}
 use lib.ListN.{length}
 use Rattle.std.proofs.lemmas.Result.{err_from_is_err_and}
 use Rattle.refusals.specs.Refusal.{Verdict, after}
-use Rattle.given.specs.declared.Degree.{Degree}
-use Rattle.given.specs.Given.{table_with, table_told}
+use Rattle.given.specs.Given.{Given, table_told}
 use Rattle.opening.specs.Opened.{opened_at, open_verdict, open_of}
 use Rattle.opening.proofs.VerdictLaw.{opened_err, opened_ok}
 use Rattle.wire.specs.Wire.{record_words}
@@ -28,7 +27,7 @@ returns-in_err-r c =
     let g = table_told a.n a.m a.table.now in
     let p = err_from_is_err_and c.from_residual-in_err-r.result c.from_residual-in_err-r.ensures.1 in
     let h = room_done a.n a.m (length l) 465 (sym c.room_for.ensures ∙ c.in_ok-room_for.was) in
-    let o = c.open.ensures.value ∙ ap (λ (d : Degree). open_of (table_with d a.n a.m a.table.now) a.place.0) c.degree_of-degree.ensures in
+    let o = c.open.ensures.value ∙ ap (λ (g : Given). open_of g a.place.0) c.by_length.ensures in
     let e = h.1 (open_verdict g a.place.0) ∙ opened_err (open_verdict g a.place.0) (opened_at g a.place.0) _ (sym o ∙ c.in_err-r.was) in
     (p.1 ∙ ap Err p.2 ∙ sym e, sym (ap (λ (v : Verdict). after v l (record_words (opened_at g a.place.0))) e))
 
@@ -43,7 +42,7 @@ returns c =
     let l = a.«record».now in
     let g = table_told a.n a.m a.table.now in
     let h = room_done a.n a.m (length l) 465 (sym c.room_for.ensures ∙ c.in_ok-room_for.was) in
-    let o = c.open.ensures.value ∙ ap (λ (d : Degree). open_of (table_with d a.n a.m a.table.now) a.place.0) c.degree_of-degree.ensures in
+    let o = c.open.ensures.value ∙ ap (λ (g : Given). open_of g a.place.0) c.by_length.ensures in
     let k = opened_ok (open_verdict g a.place.0) (opened_at g a.place.0) _ (sym o ∙ c.in_ok-r.was) in
     let e = h.1 (open_verdict g a.place.0) ∙ k.0 in
     (sym e, c.put_record.ensures ∙ ap record_words k.1 ∙ sym (ap (λ (v : Verdict). after v l (record_words (opened_at g a.place.0))) e))

@@ -29,12 +29,6 @@ decode-requires c =
 pub read_seconds-requires : goal.read_seconds-requires
 read_seconds-requires c = (c.requires.2, omega (arith, c.requires.1, lent_most c.args.degree))
 
-pub slice_bounds-search_parts-end-2 : goal.slice_bounds-search_parts-end-2
-slice_bounds-search_parts-end-2 c =
-    let a = c.args in
-    let d = c.decode in
-    sym (ap length (decoded (length a.table.now / 8) a.words.now a.table.now d.new.out c.requires.0 d.ensures) ∙ length_words (length a.table.now / 8) a.table.now)
-
 pub search_parts-o-requires : goal.search_parts-o-requires
 search_parts-o-requires c = c.read_seconds.auto.s ∙ c.requires.1
 

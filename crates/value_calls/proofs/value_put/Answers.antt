@@ -3,9 +3,8 @@ use mathlib.Core.Path.{sym, ap, ◌∙◌}
 use lib.ListN.{length}
 use Rattle.std.proofs.Common.{rules}
 use Rattle.tables.specs.Answers.{Evaluated}
-use Rattle.given.specs.declared.Degree.{Degree}
-use Rattle.given.specs.Given.{degree_told}
-use Rattle.operations.specs.Operations.{evaluating, value_in, evaluated_in}
+use Rattle.given.specs.Given.{Given, degree_told}
+use Rattle.operations.specs.Operations.{evaluating, value_in, evaluated_told}
 use Rattle.lent.specs.Lent.{room, judged, vector_words, value_put}
 use Rattle.lent.proofs.LentLaw.{refused_first, answered, room_refused, room_done, value_meets}
 use Rattle.value_calls.proofs.value_put.Goals as goal
@@ -29,6 +28,6 @@ returns c =
     let g = degree_told a.n (length a.coefficients.now) in
     let u = evaluating g a.n a.m a.coefficients.now a.point in
     let x = value_in g a.n a.m a.coefficients.now a.point in
-    let e = c.evaluate-e.ensures.0 ∙ ap (λ (d : Degree). evaluated_in d a.n a.m a.coefficients.now a.point) c.degree_of-degree.ensures in
+    let e = c.evaluate-e.ensures.0 ∙ ap (λ (g : Given). evaluated_told g a.point) c.by_length.ensures in
     let p = c.put_value.ensures in
     answered (λ (z : Evaluated). judged z) (λ (z : Evaluated). value_put z l) (room a.n a.m (length l) 2 u) u (h.1 u) _ _ e _ _ l (vector_words x) p.answer p.left (value_meets u x l)

@@ -1,26 +1,33 @@
--- `search::calls::ran` meets its contract: the walk from the opened record, reported.
-use mathlib.Core.Path.{◌≡◌}
-use Prim.Native.Nat.{◌^◌}
-use native.Mathlib.Omega.{arith}
-use Rattle.given.specs.Given.{table_with}
-use Rattle.given.proofs.TableLaw.{within}
-use Rattle.search.proofs.RanLaw.{left_place, ran_is}
+-- `search::calls::ran` meets its contract: the walk of the two parts of the record.
+use mathlib.Core.Path.{◌≡◌, ap, ◌∙◌}
+use mathlib.Core.Bool.{true}
+use mathlib.Core.List.{List}
+use Prim.Native.Nat.{ℕ}
+use lib.ListN.{length}
+use Rattle.std.proofs.Common.{rules}
+use Rattle.walks.specs.Calls.{list_after}
+use Rattle.given.specs.Told.{told}
+use Rattle.opening.specs.First.{whole_of}
+use Rattle.outcomes.specs.Search.{trail_behind, fits, ran_of}
+use Rattle.outcomes.specs.First.{first_for, outcome_with}
+use Rattle.search.specs.Lending.{Lent}
+use Rattle.search.proofs.PartsLaw.{parts_own, ran_told}
 use Rattle.search.proofs.calls.ran.Goals as goal
 
-pub walked-t-requires : goal.walked-t-requires
-walked-t-requires c =
+pub in_parts-requires : goal.in_parts-requires
+in_parts-requires c κs =
     let a = c.args in
-    (c.requires.0, c.requires.1, c.power-end.ensures.0 (omega (arith, (within (table_with a.degree a.n a.m a.table.now) c.requires.0).most)))
-
-pub reported-requires : goal.reported-requires
-reported-requires c =
-    let a = c.args in
-    let x = c.walked-t in
-    omega (arith, left_place (table_with a.degree a.n a.m a.table.now) a.r.place.0 a.budget a.list.now _ x.result x.ensures)
+    let d = a.table.degree in
+    let own : (s : List ℕ) → Lent d a.r s → fits (told a.table) (whole_of d (first_for d a.r) s) ≡ true = λ s h. parts_own (told a.table) a.r s h c.requires.0 c.requires.1 in
+    search (rules, own)
 
 pub returns : goal.returns
 returns c =
     let a = c.args in
-    let x = c.walked-t in
-    let p : c.power-end.result ≡ 3 ^ a.n = c.power-end.ensures.0 (omega (arith, (within (table_with a.degree a.n a.m a.table.now) c.requires.0).most)) in
-    ran_is (table_with a.degree a.n a.m a.table.now) a.r.place.0 a.budget a.list.now _ x.result x.ensures _ _ p c.reported.ensures
+    let d = a.table.degree in
+    let g = told a.table in
+    let e = c.in_parts.ensures in
+    let t : (outcome_with d e.2 e.3.now ≡ ran_of g a.r.place.0 a.budget (length e.1.now)) × (e.4.now ≡ list_after (trail_behind g) a.budget a.r.place.0 e.1.now) = search rules in (
+      ran_told g a.r e.0.now e.5 c.requires.0 c.requires.1 a.budget a.list.now e.2 e.4.now e.3.now c.in_parts.result (t.0 ∙ ap (λ (l : List ℕ). ran_of g a.r.place.0 a.budget (length l)) e.6) e.8,
+      e.9 ∙ t.1 ∙ ap (list_after (trail_behind g) a.budget a.r.place.0) e.6,
+    )
