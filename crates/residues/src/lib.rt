@@ -7,5 +7,6 @@ ghost use Rattle.residues.specs.Residue.{Reduced};
 pub fn remainder(c: i8) -> u8
     ensures { Reduced c result }
 {
-    c.rem_euclid(3) as u8
+    let r = c % 3;
+    if r < 0 { (r + 3) as u8 } else { r as u8 }
 }
