@@ -6,8 +6,8 @@ ghost use Rattle.std.specs.Prelude.{◌≡◌, ℕ, List, Some, IfOk, MatchResul
 ghost use Rattle.lines.specs.Lines.{lines_of};
 ghost use Rattle.shapes.specs.Shapes.{shape_of};
 ghost use Rattle.shapes.specs.declared.Shape.TheVariants.{Edge, Problem};
-ghost use Rattle.graphs.specs.Reading.{text_most, take_line, start, read_lines};
-ghost use Rattle.graphs.specs.Scans.{state_of, scan_of, edges_of, taken, turned, Seen, Kept, Held};
+ghost use Rattle.graphs.specs.Reading.{text_most, take_line, carry, start, read_lines};
+ghost use Rattle.graphs.specs.Scans.{state_of, scan_of, edges_of, taken, Seen, Kept, Held};
 
 use edges::take_pair;
 use graphs::{Fault, Graph, Scan, edge_fault, end_fault, problem_fault};
@@ -52,18 +52,19 @@ fn take_edge(g: Option<Graph>, seen: &mut [u8; 441], a: u64, b: u64) -> Result<G
     take_pair(g, seen, a, b)
 }
 
-// One line.
-fn take_line(g: Option<Graph>, seen: &mut [u8; 441], line: &[u8]) -> Result<Option<Graph>, Refusal>
-    requires { Held g seen.old }
-    ensures { (turned result ≡ take_line (state_of g) (shape_of line.now))
-        × MatchResult result (λ h. Held h seen.new) (λ _. seen.new ≡ seen.old) }
+// One line. The graph is lent, so that a line of no edge copies none of it.
+fn take_line(g: &mut Option<Graph>, seen: &mut [u8; 441], line: &[u8]) -> Result<(), Refusal>
+    requires { Held g.old seen.old }
+    ensures { (carry result (state_of g.new) ≡ take_line (state_of g.old) (shape_of line.now))
+        × MatchResult result (λ _. Held g.new seen.new) (λ _. (g.new ≡ g.old) × (seen.new ≡ seen.old)) }
 {
     match shape_of(line) {
-        Shape::Comment => Ok(g),
-        Shape::Problem { vertices, edges } => Ok(Some(take_problem(g, vertices, edges)?)),
-        Shape::Edge { one, other } => Ok(Some(take_edge(g, seen, one, other)?)),
-        Shape::Unknown => Err(Refusal::Shape),
+        Shape::Comment => {}
+        Shape::Problem { vertices, edges } => *g = Some(take_problem(*g, vertices, edges)?),
+        Shape::Edge { one, other } => *g = Some(take_edge(*g, seen, one, other)?),
+        Shape::Unknown => return Err(Refusal::Shape),
     }
+    Ok(())
 }
 
 // The whole text.
@@ -77,7 +78,7 @@ pub fn read_lines(text: &[u8]) -> Result<Scan, Fault>
     let mut line = 1;
     while at < text.len() {
         let end = at + find(&text[at..], b'\n');
-        g = take_line(g, &mut seen, &text[at..end]).map_err(|why| Fault { why, line })?;
+        take_line(&mut g, &mut seen, &text[at..end]).map_err(|why| Fault { why, line })?;
         at = end + 1;
         line += 1;
     }

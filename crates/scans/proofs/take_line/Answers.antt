@@ -7,10 +7,10 @@ use Rattle.scans.proofs.take_line.Goals as goal
 
 pub returns-in-Comment : goal.returns-in-Comment
 returns-in-Comment c =
-    let s = state_of c.args.g in
+    let s = state_of c.args.g.now in
     (sym (ap (take_line s) (sym c.shape_of.ensures ∙ c.in-Comment.is) ∙ take_comment s), c.requires)
 
 pub returns-in-Unknown : goal.returns-in-Unknown
 returns-in-Unknown c =
-    let s = state_of c.args.g in
-    (sym (ap (take_line s) (sym c.shape_of.ensures ∙ c.in-Unknown.is) ∙ take_unknown s), refl)
+    let s = state_of c.args.g.now in
+    (sym (ap (take_line s) (sym c.shape_of.ensures ∙ c.in-Unknown.is) ∙ take_unknown s), (refl, refl))
