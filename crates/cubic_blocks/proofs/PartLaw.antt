@@ -1,7 +1,7 @@
 -- A block of 27 places in the code's terms: the rows and legs that are left, and which entries they read.
-use mathlib.Core.Path.{◌≡◌, refl, ap}
+use mathlib.Core.Path.{◌≡◌, refl, sym, ap, ◌∙◌}
 use mathlib.Core.List.{List}
-use Prim.Native.Nat.{ℕ, suc, ◌+◌}
+use Prim.Native.Nat.{ℕ, zero, suc, ◌+◌, ◌-◌, ◌≤◌, ◌<◌}
 use native.Mathlib.Omega.{arith}
 use lib.ListN.{get_or}
 use Rattle.trits.specs.declared.Vector.{Vector}
@@ -72,6 +72,19 @@ module _ {t : List ℕ} {k : Keys} {c p : ℕ} (f : Fits t k c p) where
         pair = omega (arith, f.two, f.low);
       }
 
+-- what the turns that are left of a loop make of a state, where f i is one turn and the i after it
+unfoldable pub left : (ℕ → State → State) → ℕ → State → State
+left f zero s = s
+left f (suc i) s = f i s
+
+pub left_more : (f : ℕ → State → State) (j i : ℕ) (s : State) → j ≡ suc i → left f j s ≡ f i s
+unfolding left
+left_more f j i s e = ap (λ (m : ℕ). left f m s) e
+
+pub left_none : (f : ℕ → State → State) (j : ℕ) (s : State) → j ≡ 0 → left f j s ≡ s
+unfolding left
+left_none f j s e = ap (λ (m : ℕ). left f m s) e
+
 -- the rows of three that are left of nine places, and the legs of nine that are left of 27
 module _ (E : ℕ → Vector) (k : Keys) where
   pub rows_more : (j i c p : ℕ) (s : State) → j ≡ suc i → rows_of E k j c p s ≡ rows_of E k i 1 (k.p1 + c) (bump 1 (19 + c) (E (k.k1 + p)) (three_of E k.k0 c p s))
@@ -89,3 +102,40 @@ module _ (E : ℕ → Vector) (k : Keys) where
   pub legs_none : (c p : ℕ) (s : State) → legs_of E k 0 c p s ≡ nine_of E k c p s
   unfolding legs_of
   legs_none c p s = refl
+
+  -- a turn of their loops keeps what is left: with a move, and the last without
+  pub rows_turn : (j c p : ℕ) (s z y : State) (v : Vector) → j < 2 → z ≡ three_of E k.k0 c p s → v ≡ E (k.k1 + p) → y ≡ bump 1 (19 + c) v z
+      → left (λ (i : ℕ). rows_of E k i 1 (k.p1 + c)) (3 - (j + 1)) y ≡ left (λ (i : ℕ). rows_of E k i c p) (3 - j) s
+  rows_turn j c p s z y v h hz hv hy =
+      let a : 3 - (j + 1) ≡ suc (1 - j) = omega arith in
+      let b : 2 - j ≡ suc (1 - j) = omega arith in
+      let d : 3 - j ≡ suc (2 - j) = omega arith in
+      left_more (λ (i : ℕ). rows_of E k i 1 (k.p1 + c)) (3 - (j + 1)) (1 - j) y a
+      ∙ ap (rows_of E k (1 - j) 1 (k.p1 + c)) (hy ∙ ap (bump 1 (19 + c) v) hz ∙ ap (λ (x : Vector). bump 1 (19 + c) x (three_of E k.k0 c p s)) hv)
+      ∙ sym (left_more (λ (i : ℕ). rows_of E k i c p) (3 - j) (2 - j) s d ∙ rows_more (2 - j) (1 - j) c p s b)
+
+  pub rows_end : (j c p : ℕ) (s z : State) → 2 ≤ j → j < 3 → z ≡ three_of E k.k0 c p s
+      → left (λ (i : ℕ). rows_of E k i c p) (3 - (j + 1)) z ≡ left (λ (i : ℕ). rows_of E k i c p) (3 - j) s
+  rows_end j c p s z l h hz =
+      let a : 3 - (j + 1) ≡ 0 = omega arith in
+      let d : 3 - j ≡ suc 0 = omega arith in
+      left_none (λ (i : ℕ). rows_of E k i c p) (3 - (j + 1)) z a ∙ hz
+      ∙ sym (left_more (λ (i : ℕ). rows_of E k i c p) (3 - j) 0 s d ∙ rows_none c p s)
+
+  pub legs_turn : (j c p : ℕ) (s z y : State) (v : Vector) → j < 2 → z ≡ nine_of E k c p s → v ≡ E (k.k2 + p) → y ≡ bump 2 (37 + c) v z
+      → left (λ (i : ℕ). legs_of E k i 2 (k.p2 + c)) (3 - (j + 1)) y ≡ left (λ (i : ℕ). legs_of E k i c p) (3 - j) s
+  legs_turn j c p s z y v h hz hv hy =
+      let a : 3 - (j + 1) ≡ suc (1 - j) = omega arith in
+      let b : 2 - j ≡ suc (1 - j) = omega arith in
+      let d : 3 - j ≡ suc (2 - j) = omega arith in
+      left_more (λ (i : ℕ). legs_of E k i 2 (k.p2 + c)) (3 - (j + 1)) (1 - j) y a
+      ∙ ap (legs_of E k (1 - j) 2 (k.p2 + c)) (hy ∙ ap (bump 2 (37 + c) v) hz ∙ ap (λ (x : Vector). bump 2 (37 + c) x (nine_of E k c p s)) hv)
+      ∙ sym (left_more (λ (i : ℕ). legs_of E k i c p) (3 - j) (2 - j) s d ∙ legs_more (2 - j) (1 - j) c p s b)
+
+  pub legs_end : (j c p : ℕ) (s z : State) → 2 ≤ j → j < 3 → z ≡ nine_of E k c p s
+      → left (λ (i : ℕ). legs_of E k i c p) (3 - (j + 1)) z ≡ left (λ (i : ℕ). legs_of E k i c p) (3 - j) s
+  legs_end j c p s z l h hz =
+      let a : 3 - (j + 1) ≡ 0 = omega arith in
+      let d : 3 - j ≡ suc 0 = omega arith in
+      left_none (λ (i : ℕ). legs_of E k i c p) (3 - (j + 1)) z a ∙ hz
+      ∙ sym (left_more (λ (i : ℕ). legs_of E k i c p) (3 - j) 0 s d ∙ legs_none c p s)

@@ -92,15 +92,17 @@ fn nine(
     let mut y = x;
     let mut at = c;
     let mut q = p;
-    for _j in 0..2u32 {
+    for j in 0..3u32 {
         y = three(y, table, k.k0, at, q, seconds, list);
-        let e = k.k1 + q;
-        let seat = 19 + at;
-        y = raise_slot(y, 1, seat, vector(table, e), seconds);
-        q = k.p1 + at;
-        at = 1;
+        if j < 2 {
+            let e = k.k1 + q;
+            let seat = 19 + at;
+            y = raise_slot(y, 1, seat, vector(table, e), seconds);
+            q = k.p1 + at;
+            at = 1;
+        }
     }
-    three(y, table, k.k0, at, q, seconds, list)
+    y
 }
 
 // 27 places below (c, d), where the first has been moved to.
@@ -121,13 +123,15 @@ pub(crate) fn big(
     let mut y = x;
     let mut at = c;
     let mut q = p;
-    for _j in 0..2u32 {
+    for j in 0..3u32 {
         y = nine(y, table, k, at, q, seconds, list);
-        let e = k.k2 + q;
-        let seat = 37 + at;
-        y = raise_slot(y, 2, seat, vector(table, e), seconds);
-        q = k.p2 + at;
-        at = 2;
+        if j < 2 {
+            let e = k.k2 + q;
+            let seat = 37 + at;
+            y = raise_slot(y, 2, seat, vector(table, e), seconds);
+            q = k.p2 + at;
+            at = 2;
+        }
     }
-    nine(y, table, k, at, q, seconds, list)
+    y
 }
