@@ -15,7 +15,7 @@ use cubic_checks::check;
 use cubic_planes::plane;
 use evaluation::digits;
 use gray::Point;
-use listed::{Listed, nonzero, summed};
+use listed::{Listed, nonzero_into, summed};
 use positions::power;
 use refusals::{MOST_UNKNOWNS, Refusal};
 use tables::vector;
@@ -35,7 +35,13 @@ pub fn value_at(table: &[u64], n: usize, x: &[u64; MOST_UNKNOWNS]) -> Vector
     requires { (n ≤ most_unknowns) × (length table.now ≡ 2 * cubic_count n) }
     ensures { (m : ℕ) → CubicTable n m table.now → result ≡ of_trits m (λ e. cubic_of (cubic_at n table.now e) n (λ k. get_or x.now k 0)) }
 {
-    let list = nonzero(n, x);
+    // Filled in place: nonzero's list, by value, is copied.
+    let mut list = Listed {
+        at: [0; 21],
+        turn: [0; MOST_UNKNOWNS],
+        count: 0,
+    };
+    list.count = nonzero_into(n, x, &mut list.at, &mut list.turn);
     value_of(table, n, &list)
 }
 
