@@ -71,10 +71,9 @@ pub fn no_seconds(b: &[u8]) -> bool
     requires { length b.now ≡ limits.record_length }
     ensures { result ≡ all_zero (record_in b.now).seconds }
 {
-    let seconds = &b[FIRST_LENGTH..RECORD_LENGTH];
     let mut any: u8 = 0;
-    for x in seconds {
-        any |= *x;
+    for i in FIRST_LENGTH..RECORD_LENGTH {
+        any |= b[i];
     }
     any == 0
 }
