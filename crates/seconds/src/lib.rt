@@ -19,6 +19,13 @@ use refusals::{MOST_UNKNOWNS, SECOND_WORDS};
 use tables::{index, put_entry, vector};
 use trits::{Vector, add, times};
 
+// q less a, or 0 where a is more.
+pub fn less(q: u64, a: u64) -> u64
+    ensures { result ≡ q - a }
+{
+    q.saturating_sub(a)
+}
+
 // The entry of b, c, and that of b, c, c, if there is one, as often as places began with these; y is what is left of the place, over 3 to the c.
 fn seed(table: &[u64], n: usize, b: usize, c: usize, base: usize, y: u64) -> Vector
     requires { (n ≤ most_unknowns) × (b ≤ c) × (c < n) × (base ≡ key_of n b + (pair_of n c c - c)) × (length table.now ≡ 2 * cubic_count n) × (y < 2 ^ 63) }
@@ -57,11 +64,11 @@ fn row(table: &[u64], n: usize, b: usize, q: u64, first: u64, out: &mut [u64; SE
     ensures { Filled n table.now q b b out.old → Filled n table.now q b n out.new }
 {
     let kb = key(n, b);
-    let left = q.saturating_sub(first);
+    let left = less(q, first);
     let mut power = first;
     for c in b..n {
         let base = kb + (pair(n, c, c) - c);
-        let v = second(table, n, b, c, base, left.saturating_sub(power), power);
+        let v = second(table, n, b, c, base, less(left, power), power);
         let k = pair(MOST_UNKNOWNS, b, c);
         put_entry(out, k, v);
         power *= 3;

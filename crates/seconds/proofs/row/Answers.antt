@@ -35,7 +35,7 @@ loop-c-preserved c =
     let a = c.args in
     let p = c.requires in
     let l = c.loop-c in
-    let left : c.saturating_sub.result ≡ a.q - (3 ^ a.b + 3 ^ l.c) = omega arith in (
+    let left : c.less.result ≡ a.q - (3 ^ a.b + 3 ^ l.c) = omega arith in (
       ap (λ (x : ℕ). x * 3) l.invariant.0 ∙ power_next l.c,
       λ f. rw (c.put_entry.ensures, c.pair-k.ensures.0) (filled_next a.n a.table.now a.q a.b l.c l.out c.second-v.result l.auto.c (omega arith) p.0 (λ m w. c.second-v.ensures m a.q w p.2 left) (l.invariant.1 f)),
     )
