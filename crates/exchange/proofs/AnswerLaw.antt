@@ -1,11 +1,13 @@
 -- The answer and the output after it, for each way that a call ends.
 use mathlib.Core.Path.{◌≡◌, refl, sym, ap, ap₂, ◌∙◌}
+use mathlib.Core.Bool.{Bool, true, false}
 use mathlib.Core.List.{List, [], ◌∷◌, ◌++◌}
 use Prim.Native.Nat.{ℕ, ◌+◌, ◌≤◌, ◌<◌}
 use native.Mathlib.Omega.{arith}
 use lib.Dec.{ltb}
 use lib.ListN.{length, take, drop, take-append-drop}
-use borrow.Author.Tests.{lt-ltb, le-ltb, eq-eqb, ne_eqb}
+use borrow.Author.Tests.{ltb-true, lt-ltb, le-ltb, eq-eqb, ne_eqb}
+use Rattle.refusals.specs.Choice.{pick}
 use Rattle.refusals.specs.declared.Refusal.{Refusal}
 use Rattle.refusals.specs.declared.Refusal.TheVariants as why
 use Rattle.graphs.specs.Edges.{Ends}
@@ -58,6 +60,19 @@ pub put_whole : (old s new : List ℕ) (k : ℕ) → Put old 0 s new k → new �
 put_whole old s new k p =
     let n : k ≡ length s = omega (arith, p.next) in
     sym (take-append-drop k new) ∙ ap₂ (λ (a b : List ℕ). a ++ b) p.front p.rest ∙ ap (λ (j : ℕ). s ++ drop j old) n
+
+-- nothing was
+pub put_nothing : (old s new : List ℕ) (j k : ℕ) → j ≡ 0 → Put old 0 (take j s) new k → new ≡ old
+put_nothing old s new j k e p = put_whole old [] new k (rw (ap (λ (i : ℕ). take i s) e) at p)
+
+-- all or none: fewer bytes than all are none
+module _ (room used part : ℕ) (h : part ≡ pick (ltb room used) 0 used) (l : part < used) where
+  cut : (q : Bool) → ltb room used ≡ q → (room < used) × (part ≡ 0)
+  cut true e = (ltb-true room used e, h ∙ ap (λ (x : Bool). pick {A = ℕ} x 0 used) e)
+  cut false e = let z : part ≡ used = h ∙ ap (λ (x : Bool). pick {A = ℕ} x 0 used) e in absurd (omega arith)
+
+  pub part_none : (room < used) × (part ≡ 0)
+  part_none = cut (ltb room used) refl
 
 -- ---- a text that was read
 module _ (t : List ℕ) (v e : ℕ) (s : List ℕ) (h : Reads t v e s) where

@@ -3,7 +3,8 @@
 // and specs/Answers. For callers that are told by words it is the crate tidy_calls.
 #![tactic(auto)]
 
-ghost use Rattle.std.specs.Prelude.{◌≡◌, ◌≤◌, length};
+ghost use Rattle.std.specs.Prelude.{◌≡◌, ◌≤◌, ltb, length};
+ghost use Rattle.refusals.specs.Choice.{pick};
 ghost use Rattle.graphs.specs.Reading.{text_most};
 ghost use Rattle.exchange.specs.Answers.{tidied, answer_of, out_after, Answers, Reads};
 
@@ -26,6 +27,16 @@ pub struct Tidied {
     pub turned: u64,
 }
 
+// How many bytes are written of a text of so many, into an output with so much room: all or none.
+fn whole(used: usize, room: usize) -> usize
+    ensures { (result ≡ pick (ltb room used) 0 used) × (result ≤ used) × (result ≤ room) }
+{
+    if room < used {
+        return 0;
+    }
+    used
+}
+
 // A text that was read to a graph of v vertices and e edges, written back.
 fn write_back(
     text: &[u8],
@@ -39,13 +50,14 @@ fn write_back(
 {
     let mut page = [0u8; PAGE];
     let used = put_tidy(&mut page, v, e, seen);
-    if out.len() < used {
+    let part = whole(used, out.len());
+    put(out, 0, &page[..part]);
+    if part < used {
         return Err(Fault {
             why: Refusal::Room,
             line: 0,
         });
     }
-    put(out, 0, &page[..used]);
     let t = count_lines(text);
     Ok(Tidied {
         bytes: used as u64,
