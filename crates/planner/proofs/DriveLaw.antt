@@ -5,9 +5,10 @@ use mathlib.Core.List.{List, [], ◌++◌, append_assoc}
 use Prim.Native.Nat.{ℕ, suc, ◌+◌, ◌-◌, ◌*◌, ◌^◌, ◌≤◌, ◌<◌}
 use native.Mathlib.Omega.{arith}
 use lib.ListN.{take}
+use Rattle.std.specs.Prelude.{Result, Ok, Err}
 use Rattle.tables.specs.Monomials.{count_of}
 use Rattle.planner.specs.declared.Session.{Session}
-use Rattle.planner.specs.Output.{output_of, own_table, Standing, left_from, left_of, Begins, Went, Calls, none, more}
+use Rattle.planner.specs.Output.{output_of, own_table, Standing, left_from, left_of, Begins, Begun, Went, Calls, none, more}
 use Rattle.outcomes.specs.Search.{trail_behind}
 use Rattle.given.proofs.TableLaw.{within, power_small}
 use Rattle.planner.proofs.NextLaw.{append_none}
@@ -49,11 +50,21 @@ calls_left_lem t s l r none = refl
 calls_left_lem t s l r (more {r = u} {b = b} {l = k} w c) =
     w.output ∙ ap (λ (x : List ℕ). take u.used b ++ x) (calls_left_lem t u k r c) ∙ sym (append_assoc (take u.used b) k (left_of t r))
 
--- what reading and the calls leave to be written, joined, is the whole output once the session is over
-pub whole_output : (input table b : List ℕ) (s : Session) (l : List ℕ) (r : Session) → Begins input table b s
+-- what a session that was begun leaves to be written, joined, is the whole output once it is over
+session_output : (input table b : List ℕ) (s : Session) (l : List ℕ) (r : Session) → Begins input table b s
     → Calls (take (2 * count_of s.n) table) s l r → r.open ≡ false → output_of input ≡ take s.used b ++ l
-whole_output input table b s l r g c e =
+session_output input table b s l r g c e =
     let t = take (2 * count_of s.n) table in
     g.output
     ∙ ap (λ (x : List ℕ). take s.used b ++ x)
     (calls_left_lem t s l r c ∙ ap (λ (x : List ℕ). l ++ x) (left_none t r e) ∙ append_none l)
+
+-- what reading and the calls leave to be written: of a session until it is over, and of a refusal with no call
+pub data Writes (table b : List ℕ) : Result Session ℕ → List ℕ → Type 0 where
+  session : {s r : Session} {l : List ℕ} → Calls (take (2 * count_of s.n) table) s l r → r.open ≡ false → Writes table b (Ok s) (take s.used b ++ l)
+  refusal : {k : ℕ} → Writes table b (Err k) (take k b)
+
+-- joined, it is the whole output, whatever reading answered
+pub whole_output : (input table b : List ℕ) (a : Result Session ℕ) (w : List ℕ) → Begun input table b a → Writes table b a w → output_of input ≡ w
+whole_output input table b a w g (session {s = s} {r = r} {l = l} c e) = session_output input table b s l r g c e
+whole_output input table b a w g refusal = g.output
