@@ -42,7 +42,7 @@ returns c =
     let l = a.«record».now in
     let g = table_told a.n a.m a.table.now in
     let h = room_done a.n a.m (length l) 465 (sym c.room_for.ensures ∙ c.in_ok-room_for.was) in
-    let o = c.open.ensures.value ∙ ap (λ (g : Given). open_of g a.place.0) c.by_length.ensures in
-    let k = opened_ok (open_verdict g a.place.0) (opened_at g a.place.0) _ (sym o ∙ c.in_ok-r.was) in
+    let s = c.open.ensures.value ∙ ap (λ (g : Given). open_of g a.place.0) c.by_length.ensures in
+    let k = opened_ok (open_verdict g a.place.0) (opened_at g a.place.0) _ (sym s ∙ c.in_ok-r.was) in
     let e = h.1 (open_verdict g a.place.0) ∙ k.0 in
     (sym e, c.put_record.ensures ∙ ap record_words k.1 ∙ sym (ap (λ (v : Verdict). after v l (record_words (opened_at g a.place.0))) e))
